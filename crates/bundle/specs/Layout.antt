@@ -1,0 +1,56 @@
+-- The layout of block 0, and of what stands beside the records of a record block, byte by byte.
+use Prim.Native.Nat.{ℕ, _+_, _-_, _*_, _/_, min}
+use mathlib.Core.Bool.{Bool, not, _&&_, _||_}
+use mathlib.Core.List.{List}
+use lib.Dec.{eqb, ltb, leb}
+use Rattle.bundle.specs.Lowest.{anyBelow}
+use Rattle.bundle.specs.Block.{byteAt}
+
+-- what block 0 says, at the start of a bundle: E, R and N
+abbrev pub entitiesOf : List ℕ → ℕ
+entitiesOf bytes = byteAt bytes 1
+
+abbrev pub namesOf : List ℕ → ℕ
+namesOf bytes = byteAt bytes 2
+
+abbrev pub recordsOf : List ℕ → ℕ
+recordsOf bytes = byteAt bytes 3
+
+-- a number is not among 1 to most
+abbrev pub outside : ℕ → ℕ → Bool
+outside most b = eqb b 0 || ltb most b
+
+-- byte i of block 0 is wrong: byte 0 is 1, bytes 1, 2 and 3 are E, R and N, byte 3 + A is the mark of shelf A, 1 or 2, for A
+-- up to E, and every byte behind the marks is 0
+abbrev pub firstByteWrong : ℕ → ℕ → ℕ → Bool
+firstByteWrong E i b =
+    eqb i 0 && not (eqb b 1)
+    || eqb i 1 && outside 32 b
+    || eqb i 2 && outside 16 b
+    || eqb i 3 && ltb 240 b
+    || (leb 4 i && leb i (3 + E)) && (not (eqb b 1) && not (eqb b 2))
+    || (leb 4 i && ltb (3 + E) i) && not (eqb b 0)
+
+-- block 0 breaks its layout
+unfoldable pub firstWrong : List ℕ → Bool
+firstWrong first = anyBelow (λ i. firstByteWrong (entitiesOf first) i (byteAt first i)) 510
+
+-- block 0, then one record block for every 40 credentials begun
+abbrev pub blocksFor : ℕ → ℕ
+blocksFor N = 1 + (N + 39) / 40
+
+-- the number of records in record block j + 1: 40 in all but the last block
+abbrev pub recordsIn : ℕ → ℕ → ℕ
+recordsIn N j = min 40 (N - 40 * j)
+
+-- byte i of record block j + 1 with so many records is wrong: behind the records it is 0 up to byte 507, byte 508 is the
+-- block's number and byte 509 the number of records
+abbrev pub besideByteWrong : ℕ → ℕ → ℕ → ℕ → Bool
+besideByteWrong j records i b =
+    (leb (12 * records) i && ltb i 508) && not (eqb b 0)
+    || eqb i 508 && not (eqb b (j + 1))
+    || eqb i 509 && not (eqb b records)
+
+-- the bytes beside the records of record block j + 1 with so many records are wrong
+unfoldable pub besideWrong : ℕ → ℕ → List ℕ → Bool
+besideWrong j records b = anyBelow (λ i. besideByteWrong j records i (byteAt b i)) 510
