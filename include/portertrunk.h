@@ -1,0 +1,72 @@
+/* Portertrunk for C programs: is this person entitled?
+ *
+ * Two functions, proved for every input: any bytes at all may be lent, and each call returns. Link
+ * target/staticlib/libcapi.a, which `rt staticlib capi` writes (x86-64, System V calling convention).
+ *
+ * A slice is passed as a pointer and the number of its elements. Where that number is 0 the pointer
+ * may be anything. Memory that is lent for writing (sure, possible, slip of the search) must not
+ * overlap any other memory of the same call. Nothing is kept after the call returns.
+ *
+ * A question is three numbers: is the person d a member of the role r of the entity a?
+ *
+ * The result of either function holds five numbers:
+ *
+ *     bits 56 to 63  number   0, or the number of a refusal
+ *     bits 40 to 55  place    0, or where the refusal was found
+ *     bits 32 to 39  verdict  1 YES, 2 NO, 3 UNSURE; 0 with a refusal, and from the check
+ *     bits 16 to 31  rounds   the number of rounds over the credentials held; 0 with a refusal, and from the check
+ *     bits  0 to 15  lines    the lines of the slip written or accepted; 0 otherwise
+ *
+ * The refusals. The lower number goes first, and the place is the lowest that applies:
+ *
+ *      1  the bundle's length is 0, above 3,584 or no multiple of 512; place 0
+ *      2  the check of a block differs from the one that stands in it; place: the block, from 0
+ *      3  block 0 breaks its layout: edition, entities, names, records, marks, or a byte that should be zero; place 0
+ *      4  the number of blocks does not fit the number of records; place 0
+ *      5  in a record block an unused place, a byte that should be zero, its number or its count is wrong; place: the block
+ *      6  a record is wrong: its form, its parts, an entity, a role name, or a byte that should be zero; place: the record, from 1
+ *      7  the question names an entity or a role name that the bundle does not have, or 0; place 0
+ *      8  a lent table has fewer than 512 words, or the slip buffer fewer than 61,440 bytes (search only); place 0
+ *      9  the slip's length is 0, above 61,440 or no multiple of 8 (check only); place 0
+ *     10  a line of the slip is not right: its credential, a premise, or what the premises state (check only); place: the line, from 1
+ *     11  every line is right, and the last states another fact than the question's (check only); place 0
+ */
+#ifndef PORTERTRUNK_H
+#define PORTERTRUNK_H
+
+#include <stddef.h>
+#include <stdint.h>
+
+#ifdef __cplusplus
+extern "C" {
+#endif
+
+#define PORTERTRUNK_WORDS 512        /* words that a table needs */
+#define PORTERTRUNK_SLIP_BYTES 61440 /* bytes that the slip buffer needs: 7,680 lines of 8 */
+
+/* Searches. A refused call leaves every lent word and byte as it was. Otherwise the first 512 words of
+ * each table are written: role r of entity a is word 16 * (a - 1) + r - 1, and the member d is bit d - 1.
+ * `sure` holds the members by the credentials held, `possible` those under at least one completion by
+ * houses whose shelf is absent. Words from 512 on stay. With YES the slip stands in the first 8 * lines
+ * bytes of `slip`, and the bytes past it stay; with NO and UNSURE the slip buffer is not touched. */
+uint64_t portertrunk_search(const uint8_t *bundle, size_t bundle_bytes, uint8_t d, uint8_t a, uint8_t r,
+                            uint32_t *sure, size_t sure_words, uint32_t *possible, size_t possible_words,
+                            uint8_t *slip, size_t slip_bytes);
+
+/* Checks a slip from anyone, and writes nothing. Accepted, number 0 and the number of lines, exactly if
+ * the slip shows that the person is a member by the credentials in the bundle. */
+uint64_t portertrunk_check(const uint8_t *bundle, size_t bundle_bytes, uint8_t d, uint8_t a, uint8_t r,
+                           const uint8_t *slip, size_t slip_bytes);
+
+/* The parts of a result. */
+static inline unsigned portertrunk_number(uint64_t result) { return (unsigned)(result >> 56); }
+static inline unsigned portertrunk_place(uint64_t result) { return (unsigned)(result >> 40 & 0xffff); }
+static inline unsigned portertrunk_verdict(uint64_t result) { return (unsigned)(result >> 32 & 0xff); }
+static inline unsigned portertrunk_rounds(uint64_t result) { return (unsigned)(result >> 16 & 0xffff); }
+static inline unsigned portertrunk_lines(uint64_t result) { return (unsigned)(result & 0xffff); }
+
+#ifdef __cplusplus
+}
+#endif
+
+#endif

@@ -1,0 +1,7 @@
+/* The integer types that the header of the library needs, for a compiler that comes without headers. */
+#ifndef TEST_STDINT_H
+#define TEST_STDINT_H
+typedef __UINT8_TYPE__ uint8_t;
+typedef __UINT32_TYPE__ uint32_t;
+typedef __UINT64_TYPE__ uint64_t;
+#endif
