@@ -16,8 +16,6 @@ impl Block {
 
     pub const RECORDS: usize = 40;
 
-    pub const RECORDS_END: usize = 508;
-
     pub const NUMBER_PLACE: usize = 508;
 
     pub const COUNT_PLACE: usize = 509;
