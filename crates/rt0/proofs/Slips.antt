@@ -124,23 +124,25 @@ terse-take cs lines n t = record { right = right-take; once = once-take }
         let small : m ≤ n = omega arith in
         rw take-take (t .right m l (rw item-take at e))
 
+-- one more right line
+pub right-snoc : (cs : List Credential) (lines : List Line) (l : Line) → RightSlip cs lines → RightLine cs lines l
+    → RightSlip cs (lines ++ (l ∷ []))
+right-snoc cs lines l h r n x i = ⊎-elim old last (item-cases lines l n x i)
+  where
+    old : getElem? lines n ≡ some x → RightLine cs (take n (lines ++ (l ∷ []))) x
+    old j =
+        let inside : n < length lines = item-within lines n x j in
+        let below : n ≤ length lines = omega arith in
+        rw take-append-le (h n x j)
+
+    last : (n ≡ length lines) × (l ≡ x) → RightLine cs (take n (lines ++ (l ∷ []))) x
+    last j = rw (j .0, ← j .1, take-append-seam) r
+
 -- one more line, which states a new fact
 terse-snoc : (cs : List Credential) (lines : List Line) (l : Line) (f : Fact) → Terse cs lines → RightLine cs lines l
     → stated cs (some l) ≡ some f → Unsaid cs lines f → Terse cs (lines ++ (l ∷ []))
-terse-snoc cs lines l f t r e new = record { right = right-snoc; once = once-snoc }
+terse-snoc cs lines l f t r e new = record { right = right-snoc cs lines l (t .right) r; once = once-snoc }
   where
-    right-snoc : RightSlip cs (lines ++ (l ∷ []))
-    right-snoc n x i = ⊎-elim old last (item-cases lines l n x i)
-      where
-        old : getElem? lines n ≡ some x → RightLine cs (take n (lines ++ (l ∷ []))) x
-        old j =
-            let inside : n < length lines = item-within lines n x j in
-            let below : n ≤ length lines = omega arith in
-            rw take-append-le (t .right n x j)
-
-        last : (n ≡ length lines) × (l ≡ x) → RightLine cs (take n (lines ++ (l ∷ []))) x
-        last j = rw (j .0, ← j .1, take-append-seam) r
-
     once-snoc : NoFactTwice cs (lines ++ (l ∷ []))
     once-snoc m n g s u = compared (says-cases cs lines l m g s) (says-cases cs lines l n g u)
       where

@@ -1,0 +1,17 @@
+-- Two lists that a loop compares from the front, one element a turn.
+use Prim.Native.Nat.{ℕ, _<_, _≤_}
+use native.Mathlib.Omega.{arith}
+use mathlib.Core.Path.{_≡_, ap}
+use mathlib.Core.List.{List}
+use lib.ListN.{length, getD}
+use lib.Seq.{ext-getD}
+
+-- two lists agree below i
+abbrev pub Agree : List ℕ → List ℕ → ℕ → Type 0
+Agree one two i = (k : ℕ) → k < i → getD one k 0 ≡ getD two k 0
+
+pub agree-whole : (one two : List ℕ) (n i : ℕ) → length one ≡ n → length two ≡ n → n ≤ i → Agree one two i → one ≡ two
+agree-whole one two n i a b l h = ext-getD 0 one two (omega arith) (λ k m. h k (omega arith))
+
+pub differ : (one two : List ℕ) (i : ℕ) → (getD one i 0 ≡ getD two i 0 → ⊥) → one ≡ two → ⊥
+differ one two i h e = h (ap (λ (l : List ℕ). getD l i 0) e)

@@ -1,0 +1,20 @@
+-- `search::premise::line_of` meets its contract.
+use borrow.Author.Needs.{needs}
+use Rattle.search.proofs.premise.line_of.Statement.{statement}
+use Rattle.search.proofs.premise.line_of.Tie as tie
+
+fact-number-requires : tie.Need-fact-number-requires
+fact-number-requires c κs = search needs
+
+mul-result : tie.Need-mul-result
+mul-result c = search needs
+
+shared-slice-read-result : tie.Need-shared-slice-read-result
+shared-slice-read-result c = search needs
+
+returns : tie.Need-returns
+returns c = rw (c .before .fact-number .ensures .0)
+
+pub line-of-spec : {M : Type 1} → statement M
+line-of-spec =
+    tie.close (tie.spec fact-number-requires mul-result shared-slice-read-result returns)

@@ -1,0 +1,19 @@
+-- `search::table::word` meets its contract.
+use borrow.Author.Needs.{needs}
+use Rattle.search.proofs.table.word.Statement.{statement}
+use Rattle.search.proofs.table.word.Tie as tie
+
+place-requires : tie.Need-place-requires
+place-requires c κs = search needs
+
+mul-result : tie.Need-mul-result
+mul-result c = search needs
+
+shared-slice-read-result : tie.Need-shared-slice-read-result
+shared-slice-read-result c = search needs
+
+returns : tie.Need-returns
+returns c = rw (c .before .place .ensures .0)
+
+pub word-spec : {M : Type 1} → statement M
+word-spec = tie.close (tie.spec place-requires mul-result shared-slice-read-result returns)
