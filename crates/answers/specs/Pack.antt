@@ -1,5 +1,6 @@
 -- An outcome as one number of 64 bits, and the five parts read back. That they come back is in proofs/Packing.antt.
 use Prim.Native.Nat.{ℕ, _+_, _*_, _/_, _%_, _^_, _<_}
+use mathlib.Core.Path.{_≡_}
 use Rattle.answers.specs.Answer.{Outcome}
 
 -- number in bits 56 to 63, place in 40 to 55, verdict in 32 to 39, rounds in 16 to 31, lines in 0 to 15
@@ -37,3 +38,8 @@ pub record Fits (o : Outcome) : Type 0 where
   pub verdict : o .verdict < 2 ^ 8
   pub rounds : o .rounds < 2 ^ 16
   pub lines : o .lines < 2 ^ 16
+
+-- a number of 64 bits packs an outcome, whose parts fit
+pub record Packs (o : Outcome) (n : ℕ) : Type 0 where
+  pub packing : n ≡ packed o
+  pub fits : Fits o

@@ -32,12 +32,13 @@ returns c = search needs
 
 array-share-prefix-buffer : tie.Need-array-share-prefix-buffer
 array-share-prefix-buffer c =
-    omega (arith, rw (c .before .got .given .1) at (c .before .before .before .before .fill .ensures), c .before .before .before .before .fill .kept .0)
+    let filled = c .before .before .before .before .fill in
+    omega (arith, rw (c .before .got .given .1) at (filled .ensures), filled .kept .0)
 
 slice-aggregate-read : tie.Need-slice-aggregate-read
 slice-aggregate-read c =
-    sym (length-take-le _ _
-    (omega (arith, rw (c .before .before .got .given .1) at (c .before .before .before .before .before .fill .ensures), c .before .before .before .before .before .fill .kept .0)))
+    let filled = c .before .before .before .before .before .fill in
+    sym (length-take-le _ _ (omega (arith, rw (c .before .before .got .given .1) at (filled .ensures), filled .kept .0)))
 
 read-requires : tie.Need-read-requires
 read-requires c κs = search needs

@@ -1,0 +1,2 @@
+-- The law that the program's function cites.
+pub mod Asked

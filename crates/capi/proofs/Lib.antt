@@ -1,0 +1,2 @@
+-- The laws that the two functions of the C interface cite.
+pub mod Unpacking

@@ -1,0 +1,42 @@
+// The library for C: the search and the check under plain names, each with one packed number as its answer.
+// include/portertrunk.h says in words what is lent and what comes back.
+ghost use mathlib.Core.Path.{_≡_};
+ghost use Rattle.answers.specs.Pack.{packed};
+ghost use Rattle.search.specs.Promise.{question, lent};
+ghost use Rattle.checker.specs.Checking.{checkOf};
+ghost use Rattle.capi.specs.Packed.{PackedPromise, checkedOutcome};
+use answers::pack::pack;
+use answers::pack::pack_answer;
+use checker::check::Checked;
+use checker::check::check;
+use search::search;
+
+// The packed answer of the search.
+#[no_mangle]
+pub extern "C" fn portertrunk_search(
+    bundle: &[u8],
+    d: u8,
+    a: u8,
+    r: u8,
+    sure: &mut [u32],
+    possible: &mut [u32],
+    slip: &mut [u8],
+) -> u64
+    ensures { λ w. ⌜ PackedPromise (now (bundle .entry)) (question d a r)
+        (lent (now (sure .entry)) (now (possible .entry)) (now (slip .entry)))
+        (lent (now (sure .exit)) (now (possible .exit)) (now (slip .exit))) w ⌝ }
+{
+    pack_answer(search(bundle, d, a, r, sure, possible, slip))
+}
+
+// The packed answer of the check.
+#[no_mangle]
+pub extern "C" fn portertrunk_check(bundle: &[u8], d: u8, a: u8, r: u8, slip: &[u8]) -> u64
+    ensures { λ w. ⌜ w ≡ packed (checkedOutcome (checkOf (now (bundle .entry)) d a r (now (slip .entry)))) ⌝ }
+{
+    let checked = check(bundle, d, a, r, slip);
+    match checked {
+        Checked::Accepted { lines } => pack(0, 0, 0, 0, lines),
+        Checked::Refused { number, place } => pack(number, place, 0, 0, 0),
+    }
+}
