@@ -1,0 +1,2 @@
+-- The rows of the table of refusals for the search.
+pub mod Rows
