@@ -1,0 +1,5 @@
+-- The results on the small house. Computed: what one computed equation over a list says of each item. Cases: P1 to P12 are right.
+-- Slips: so are the checker's answers to the slip for P1 and its variants.
+pub mod Computed
+pub mod Cases
+pub mod Slips
