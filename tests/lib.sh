@@ -8,6 +8,8 @@
 #     same 'what is compared' "$expected" "$actual"
 #     finish
 #
+# A group in Python does the same by tests/library.py.
+#
 # The counts are variables of the group's shell. A comparison in a subshell, as in a loop behind a
 # pipe, would be lost, so it stops the group, which the gate then counts as failed. Give a command its
 # input by `writes .. <FILE` or `writes .. < <(COMMAND)`, not by a pipe.
@@ -88,6 +90,13 @@ fails() { # NAME TEXT COMMAND...
     else
         pass "$name"
     fi
+}
+
+# Builds what a group runs, by tests/build. A build that fails is a failure, and ends the group.
+needs() { # NAME...
+    tests/build "$@" && return
+    fail "tests/build $*"
+    finish
 }
 
 # Adds the counts that stand in the last line of what a step wrote, `N passed, M failed`. A step is
