@@ -1,24 +1,18 @@
--- A record's use: what it gives, put into the words, leaves every fact that they hold with a line, once each given fact has one.
+-- A record's use: what it gives, put into the words, leaves each fact that they hold with a line, once each given fact has one.
 use Prim.Native.Nat.{ℕ, _+_, _*_, _/_, _%_, _<_}
 use native.Mathlib.Decide.{ℕ-discrete}
 use native.Mathlib.Omega.{arith}
-use mathlib.Core.Path.{_≡_, refl}
+use mathlib.Core.Path.{_≡_}
 use mathlib.Core.Logic.{⊎-elim, by-cases}
-use mathlib.Core.Option.{Option, none, some}
 use mathlib.Core.List.{List}
 use lib.ListN.{length, getD, set}
 use lib.Seq.{getD-set-same, getD-set-other, set-getD}
 use lib.Bits.{bitOr}
 use Rattle.rt0.specs.Credential.{Credential}
-use Rattle.rt0.specs.Word.{bit, useWord}
 use Rattle.rt0.proofs.Bits.{bit-or}
-use Rattle.bundle.specs.declared.access.Record.{Record}
-use Rattle.bundle.specs.Access.{recordOf, credentialOf}
-use Rattle.search.specs.Give.{ValidMaybe, giveMaybe, placeMaybe, useMaybe, giveRecord, headPlace, useRecord}
 use Rattle.search.specs.Fact.{HasLine, Backed}
 use Rattle.search.specs.Ledger.{Extended}
-use Rattle.search.specs.Writing.{Writing, IsRecord, AllStated}
-use Rattle.search.proofs.Stating.{record-valid}
+use Rattle.search.specs.Writing.{AllStated}
 
 module _ (said : List ℕ) (at given : ℕ) where
   -- the words with a word of given members more
@@ -41,17 +35,3 @@ module _ (said : List ℕ) (at given : ℕ) where
   -- where nothing is new the words stay
   pub none-new : bitOr (getD said at 0) given ≡ getD said at 0 → more ≡ said
   none-new e = rw e (set-getD said at 0)
-
--- this is the use of the credential
-used : (E : ℕ) (ws said : List ℕ) (at given : ℕ) (o : Option Credential) → ValidMaybe E 16 o → at ≡ placeMaybe o → given ≡ giveMaybe E ws o
-    → set said at (bitOr (getD said at 0) given) ≡ useMaybe E ws said o
-unfolding useWord
-used E ws said at given none v p g = absurd v
-used E ws said at given (some k) v p g = rw (p, g)
-
--- and the use of record k of an accepted bundle
-pub record-used : {bytes : List ℕ} {E : ℕ} {ws index slip : List ℕ} {n : ℕ} → Writing bytes E ws index slip n → {k : ℕ} → IsRecord bytes k
-    → (said : List ℕ) {r : Record} (at given : ℕ) → r ≡ recordOf bytes k → at ≡ headPlace r → given ≡ giveRecord E ws r
-    → set said at (bitOr (getD said at 0) given) ≡ useRecord E ws said (recordOf bytes k)
-record-used {bytes} {E} {ws} w {k} i said at given e p g =
-    used E ws said at given (credentialOf (recordOf bytes k)) (record-valid w i refl) (rw e at p) (rw e at g)

@@ -1,19 +1,19 @@
 -- From the settled tables of an accepted bundle to the word for a question: what the tables show, and what each answer rests on.
-use Prim.Native.Nat.{ℕ, _+_, _-_, _*_, _≤_, _<_}
+use Prim.Native.Nat.{ℕ, _-_, _*_, _≤_}
 use mathlib.Core.Path.{_≡_, refl, sym, ap, _∙_, subst}
 use mathlib.Core.Bool.{Bool, true, false}
-use mathlib.Core.Logic.{Iff·symm}
+use mathlib.Core.Logic.{_↔_, Iff·symm}
 use mathlib.Core.List.{List, _++_}
 use native.Mathlib.Omega.{arith}
 use lib.ListN.{take, drop, length, length-take}
 use lib.Seq.{take-at, drop-at, getD-take}
 use lib.Dec.{eqb}
 use borrow.Author.Tests.{eqb-true, eqb-false}
-use Rattle.rt0.specs.Credential.{Role, _·_, Credential, IsEntity, IsName}
+use Rattle.rt0.specs.Credential.{_·_, Credential, IsEntity, IsName}
 use Rattle.rt0.specs.Membership.{Assignment, Member}
 use Rattle.rt0.specs.Table.{Rounds, distinctHeads}
-use Rattle.rt0.specs.Completion.{Open, openBy, Completable, YES, NO, UNSURE, Answers}
-use Rattle.rt0.specs.Word.{bit, wordAt, place, timesWords, noneWords, Shows, Fits}
+use Rattle.rt0.specs.Completion.{Open, openBy, Completable, YES, NO, UNSURE}
+use Rattle.rt0.specs.Word.{bit, wordAt, place, timesWords, noneWords, Shows}
 use Rattle.rt0.proofs.Possible.{Possible, possible-completable}
 use Rattle.rt0.proofs.Settle.{settled-rounds, settled-sure, settled-possible}
 use Rattle.rt0.proofs.Bounds.{rounds-by-heads}
@@ -29,6 +29,7 @@ use Rattle.search.specs.Concluded.{Right, Concluded}
 use Rattle.search.specs.Written.{Written}
 use Rattle.search.specs.Rest.{AtRest}
 use Rattle.search.specs.Filled.{Filled, Tables, everyoneOpen}
+use Rattle.search.proofs.Held.{question-within}
 
 -- the first 512 words of a lent table are settled, the others as before
 pub filled : (E : ℕ) (cs : List Credential) (start before : List ℕ) (n : ℕ) (ws : List ℕ) → AtRest E cs start n ws
@@ -68,7 +69,8 @@ module _ (bytes : List ℕ) (E R N : ℕ) (h : readOf bytes ≡ Accepted E R N) 
       shows-whole ws (Completable E R isOpen held)
       (shows-as 32 16 (take 512 ws) (Possible E R isOpen held) (Completable E R isOpen held)
       (λ ρ D. Iff·symm (possible-completable E R isOpen held (contents .valid) ρ D))
-      (settled-possible E R 32 16 (contents .most-entities) (contents .most-names) held (contents .valid) isOpen n (take 512 ws) (s .settled)))
+      (settled-possible E R 32 16 (contents .most-entities) (contents .most-names) held (contents .valid) isOpen n (take 512 ws)
+      (s .settled)))
 
   -- the number of rounds, and its bound
   pub rounds-settled : (n : ℕ) (ws : List ℕ) → AtRest E held (noneWords 512) n ws
@@ -82,24 +84,11 @@ module _ (bytes : List ℕ) (E R N : ℕ) (h : readOf bytes ≡ Accepted E R N) 
       → bit (wordAt 16 ws (a · r)) (d - 1) ≡ 1 → bit (wordAt 16 (timesWords E 16 held n (noneWords 512)) (a · r)) (d - 1) ≡ 1
   reached-bit n ws d a r s ia ir b = rw (← s .settled .reached, word-kept ws a r ia ir) b
 
-  module _ (n m : ℕ) (sure possible : List ℕ) (s : AtRest E held (noneWords 512) n (take 512 sure))
-      (p : AtRest E held (everyoneOpen bytes E R) m (take 512 possible)) (d a r : ℕ) (id : IsEntity 32 d) (ia : IsEntity 32 a)
-      (ir : IsName 16 r) where
-    pub word-yes : bit (wordAt 16 sure (a · r)) (d - 1) ≡ 1 → Answers E R isOpen held (a · r) d YES
-    word-yes b = sure-shown n sure s a r d ia ir id .0 b
-
-    pub word-unsure : (bit (wordAt 16 sure (a · r)) (d - 1) ≡ 1 → ⊥) → bit (wordAt 16 possible (a · r)) (d - 1) ≡ 1
-        → Answers E R isOpen held (a · r) d UNSURE
-    word-unsure b c = (λ member. b (sure-shown n sure s a r d ia ir id .1 member), λ never. never (possible-shown m possible p a r d ia ir id .0 c))
-
-    pub word-no : (bit (wordAt 16 possible (a · r)) (d - 1) ≡ 1 → ⊥) → Answers E R isOpen held (a · r) d NO
-    word-no c = λ completed. c (possible-shown m possible p a r d ia ir id .1 completed)
-
 -- a right question is within the tables
 pub within-tables : (bytes : List ℕ) (E R N d a r : ℕ) → Right bytes E R N d a r → IsEntity 32 d × IsEntity 32 a × IsName 16 r
 within-tables bytes E R N d a r q =
-    let contents = accepted-contents bytes E R N (q .reading) in
-    omega (arith, contents .most-entities, contents .most-names)
+    let (entity, name, person) = question-within bytes (q .reading) a r d (q .person) (q .entity, q .name) in
+    (person, entity, name)
 
 -- a table whose first 512 words are settled has them
 pub filled-size : (E : ℕ) (cs : List Credential) (start before : List ℕ) (n : ℕ) (after : List ℕ) → Filled E cs start before n after
@@ -134,6 +123,18 @@ module _ (bytes : List ℕ) (E R N d a r rounds : ℕ) (sure possible : List ℕ
   bit-clear : (ws : List ℕ) (found : Bool) → found ≡ held-by ws → found ≡ false → bit (wordAt 16 ws (a · r)) (d - 1) ≡ 1 → ⊥
   bit-clear ws found e h = eqb-false (bit (wordAt 16 ws (a · r)) (d - 1)) 1 (sym e ∙ h)
 
+  -- what the question's bit in each table tells
+  sure-bit : (bit (wordAt 16 sure (a · r)) (d - 1) ≡ 1) ↔ Member (credentials bytes N) (a · r) d
+  sure-bit =
+      let (person, entity, name) = within-tables bytes E R N d a r q in
+      sure-shown bytes E R N (q .reading) rounds sure (t .sure-rounds) a r d entity name person
+
+  possible-bit : (bit (wordAt 16 possible (a · r)) (d - 1) ≡ 1)
+      ↔ Completable E R (openBy (shelves bytes)) (credentials bytes N) (a · r) d
+  possible-bit =
+      let (person, entity, name) = within-tables bytes E R N d a r q in
+      possible-shown bytes E R N (q .reading) (t .other-rounds) possible (t .possible-rounds) a r d entity name person
+
   -- what the slip writer asks for
   pub slip-due : (found : Bool) → found ≡ held-by sure → found ≡ true
       → bit (wordAt 16 (timesWords E 16 (credentials bytes N) rounds (noneWords 512)) (a · r)) (d - 1) ≡ 1
@@ -142,27 +143,20 @@ module _ (bytes : List ℕ) (E R N d a r rounds : ℕ) (sure possible : List ℕ
       reached-bit bytes E R N (q .reading) rounds sure d a r (t .sure-rounds) entity name (bit-set sure found e h)
 
   pub conclude-yes : (before after : List ℕ) (lines : ℕ) (found : Bool) → found ≡ held-by sure → found ≡ true
-      → Written (credentials bytes N) (a · r) d before lines after → Concluded bytes E R N question rounds before after (answered YES rounds lines)
+      → Written (credentials bytes N) (a · r) d before lines after
+      → Concluded bytes E R N question rounds before after (answered YES rounds lines)
   conclude-yes before after lines found e h w =
-      let (person, entity, name) = within-tables bytes E R N d a r q in
-      record {
-        word = YES;
-        answers =
-            word-yes bytes E R N (q .reading) rounds (t .other-rounds) sure possible (t .sure-rounds) (t .possible-rounds) d a r person entity name
-            (bit-set sure found e h);
-        outcome = refl;
-        slip = w;
-      }
+      record { word = YES; answers = sure-bit .0 (bit-set sure found e h); outcome = refl; slip = w }
 
-  pub conclude-unsure : (before : List ℕ) (found other : Bool) → found ≡ held-by sure → found ≡ false → other ≡ held-by possible → other ≡ true
-      → Concluded bytes E R N question rounds before before (answered UNSURE rounds 0)
+  pub conclude-unsure : (before : List ℕ) (found other : Bool) → found ≡ held-by sure → found ≡ false → other ≡ held-by possible
+      → other ≡ true → Concluded bytes E R N question rounds before before (answered UNSURE rounds 0)
   conclude-unsure before found other e h f k =
-      let (person, entity, name) = within-tables bytes E R N d a r q in
       record {
         word = UNSURE;
-        answers =
-            word-unsure bytes E R N (q .reading) rounds (t .other-rounds) sure possible (t .sure-rounds) (t .possible-rounds) d a r person entity name
-            (bit-clear sure found e h) (bit-set possible other f k);
+        answers = (
+          λ member. bit-clear sure found e h (sure-bit .1 member),
+          λ never. never (possible-bit .0 (bit-set possible other f k)),
+        );
         outcome = refl;
         slip = (refl, refl);
       }
@@ -170,12 +164,9 @@ module _ (bytes : List ℕ) (E R N d a r rounds : ℕ) (sure possible : List ℕ
   pub conclude-no : (before : List ℕ) (other : Bool) → other ≡ held-by possible → other ≡ false
       → Concluded bytes E R N question rounds before before (answered NO rounds 0)
   conclude-no before other f k =
-      let (person, entity, name) = within-tables bytes E R N d a r q in
       record {
         word = NO;
-        answers =
-            word-no bytes E R N (q .reading) rounds (t .other-rounds) sure possible (t .sure-rounds) (t .possible-rounds) d a r person entity name
-            (bit-clear possible other f k);
+        answers = λ completed. bit-clear possible other f k (possible-bit .1 completed);
         outcome = refl;
         slip = (refl, refl);
       }

@@ -1,7 +1,7 @@
 -- The promise of the search determines everything but which lines a written slip has and how many.
 -- Two calls that keep it are taken apart side by side: by what the reader answered, by the refusals 7 and 8, and by the answer's word.
 use Prim.Native.Nat.{ℕ, zero, suc, _+_, _-_, _*_, _^_, _<_, _≤_, max}
-use mathlib.Core.Path.{_≡_, refl, sym, ap, _∙_, subst}
+use mathlib.Core.Path.{_≡_, refl, sym, ap, _∙_}
 use mathlib.Core.Bool.{Bool, true, false}
 use mathlib.Core.Logic.{_↔_, Iff·trans, Iff·symm}
 use mathlib.Core.List.{List}
@@ -9,7 +9,7 @@ use native.Mathlib.Numerals.{sub-one}
 use native.Mathlib.Decide.{decLt}
 use native.Mathlib.Omega.{arith}
 use lib.ListN.{length, getD, drop}
-use lib.Seq.{ext-getD, getD-drop, drop-drop}
+use lib.Seq.{ext-getD, getD-drop}
 use Rattle.rt0.specs.Credential.{Role, Credential, IsEntity}
 use Rattle.rt0.specs.Membership.{Assignment}
 use Rattle.rt0.specs.Completion.{openBy, Verdict, YES, NO, UNSURE}
@@ -29,6 +29,7 @@ use Rattle.answers.specs.Answer.{Outcome, verdictNumber, outcomeOf}
 use Rattle.search.specs.Promise.{Question, Lent, questionWrong, lentWrong, RefusedWith, TableLeft, SlipLeft, AnsweredWith, unless}
 use Rattle.search.specs.Promise.{PromiseAfter, Promise}
 use Rattle.search.specs.Agreement.{Memory, Agreement}
+use Rattle.search.proofs.Comparing.{drop-later}
 
 -- two tables of the same length and with words of 32 bits that the same promise leaves are equal:
 -- the first 512 words have the same bits, the others are as they were
@@ -60,23 +61,18 @@ slip-stays : {bytes : List ℕ} {E R N : ℕ} {q : Question} {before after : Len
     → (o .verdict ≡ 1 → ⊥) → (o .lines ≡ 0) × (after .slip ≡ before .slip)
 slip-stays p other = word-stays _ _ _ _ _ _ (p .word) (λ e. other (ap (λ (x : Outcome). x .verdict) (p .outcome) ∙ e)) (p .slip)
 
--- what stays from a byte on stays from any later byte on
-stays-later : (before after : List ℕ) (m n : ℕ) → m ≤ n → drop m after ≡ drop m before → drop n after ≡ drop n before
-stays-later before after m n l e =
-    let split : m + (n - m) ≡ n = omega arith in
-    subst (λ (k : ℕ). drop k after ≡ drop k before) split (sym (drop-drop (n - m) m after) ∙ ap (drop (n - m)) e ∙ drop-drop (n - m) m before)
-
+-- whatever the word, the bytes past the lines stay
 word-rest : (cs : List Credential) (ρ : Role) (D : ℕ) (before after : List ℕ) (lines : ℕ) (word : Verdict)
     → SlipLeft cs ρ D before after lines word → drop (8 * lines) after ≡ drop (8 * lines) before
 word-rest cs ρ D before after lines YES s = s .rest
 word-rest cs ρ D before after lines NO s = ap (drop (8 * lines)) (s .1)
 word-rest cs ρ D before after lines UNSURE s = ap (drop (8 * lines)) (s .1)
 
--- whatever the word, the bytes past the lines stay, also from any later line on
+-- also from any later line on
 past-stays : {bytes : List ℕ} {E R N : ℕ} {q : Question} {before after : Lent} {o : Outcome} → AnsweredWith bytes E R N q before after o
     → (lines : ℕ) → o .lines ≤ lines → drop (8 * lines) (after .slip) ≡ drop (8 * lines) (before .slip)
 past-stays {before} {after} {o} p lines l =
-    stays-later (before .slip) (after .slip) (8 * o .lines) (8 * lines) (omega arith) (word-rest _ _ _ _ _ _ (p .word) (p .slip))
+    drop-later (after .slip) (before .slip) (8 * o .lines) (8 * lines) (omega arith) (word-rest _ _ _ _ _ _ (p .word) (p .slip))
 
 -- the same test decides for both calls
 both : {A B C D G : Type 0} (wrong : Bool) → (A → C → G) → (B → D → G) → unless wrong A B → unless wrong C D → G
@@ -118,7 +114,8 @@ module _ (bytes : List ℕ) (q : Question) (before after-one after-two : Lent) (
         rounds = rounds-unique (credentials bytes N) _ _ (p .rounds) (r .rounds);
         sure = table-same _ _ _ _ (p .sure) (r .sure) (m .sure-words) (n .sure-words) (m .sure-size ∙ sym (n .sure-size));
         possible =
-            table-same _ _ _ _ (p .possible) (r .possible) (m .possible-words) (n .possible-words) (m .possible-size ∙ sym (n .possible-size));
+            table-same _ _ _ _ (p .possible) (r .possible) (m .possible-words) (n .possible-words)
+            (m .possible-size ∙ sym (n .possible-size));
         past-slips =
             past-stays p (max (one .lines) (two .lines)) (omega arith) ∙ sym (past-stays r (max (one .lines) (two .lines)) (omega arith));
         lines = λ other. slip-stays p other .0 ∙ sym (slip-stays r (λ e. other (verdicts ∙ e)) .0);

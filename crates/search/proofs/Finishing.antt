@@ -7,7 +7,7 @@ use mathlib.Core.Path.{_≡_, refl, _∙_}
 use mathlib.Core.Logic.{⊎-elim}
 use mathlib.Core.List.{List}
 use lib.ListN.{length}
-use Rattle.rt0.specs.Credential.{_·_, Credential, AllValid, ValidRole, IsEntity, IsName}
+use Rattle.rt0.specs.Credential.{_·_, Credential, ValidRole, IsEntity}
 use Rattle.rt0.specs.Slip.{_∋_, Says, SlipFor, NoFactTwice}
 use Rattle.rt0.specs.Bytes.{linesOf}
 use Rattle.rt0.specs.Word.{bit, wordAt, roundWords, timesWords, noneWords}
@@ -26,7 +26,7 @@ use Rattle.search.specs.Writing.{held, Writing, NoneOrLast, Unsaid, Fini
 use Rattle.search.specs.Written.{Written}
 use Rattle.search.proofs.Facts.{number-within, number-fact, number-holds}
 use Rattle.search.proofs.Ledgers.{ledger-nil, ledger-once}
-use Rattle.search.proofs.Held.{held-entities, held-few, held-valid}
+use Rattle.search.proofs.Held.{held-entities, held-few, held-valid, question-within}
 
 -- ---- the start
 
@@ -88,26 +88,22 @@ module _ (bytes : List ℕ) (E R N : ℕ) (h : readOf bytes ≡ Accepted E R N) 
   accepted-records : N ≡ recordsOf bytes
   accepted-records = accepted-contents bytes E R N h .records
 
-  pub question-within : (a r d : ℕ) → IsEntity E d → ValidRole E R (a · r) → IsEntity 32 a × IsName 16 r × IsEntity 32 d
-  question-within a r d i v =
-      let contents = accepted-contents bytes E R N h in
-      omega (arith, contents .most-entities, contents .most-names)
-
   -- all that the rounds ask, from nobody and an index of zeros
   pub ready : (a r d : ℕ) → IsEntity E d → ValidRole E R (a · r) → (slip : List ℕ) (goal rounds : ℕ) → goal ≡ factNumber (a · r) d
       → 61440 ≤ length slip → bit (wordAt 16 (timesWords E 16 (credentials bytes N) rounds (noneWords 512)) (a · r)) (d - 1) ≡ 1
       → Writing bytes E (noneWords 512) (noneWords 16384) slip 0 × (N ≡ recordsOf bytes) × Unsaid (noneWords 16384) goal
       × Holds (timesWords E 16 (held bytes) rounds (noneWords 512)) goal
   ready a r d i v slip goal rounds g room b =
-      let (entity, name, member) = question-within a r d i v in (
+      let (entity, name, member) = question-within bytes h a r d i v in (
         writing-none bytes E slip accepted-is accepted-entities room,
         accepted-records,
         record { inside = rw g (number-within (a · r) d (entity, name) member); none = none-at 16384 goal },
-        rw g (number-holds (timesWords E 16 (held bytes) rounds (noneWords 512)) (a · r) d (entity, name) member (rw accepted-records at b)),
+        rw g (number-holds (timesWords E 16 (held bytes) rounds (noneWords 512)) (a · r) d (entity, name) member
+            (rw accepted-records at b)),
       )
 
-  pub written : (a r d : ℕ) → IsEntity E d → ValidRole E R (a · r) → (slip index' slip' : List ℕ) (goal n : ℕ) → goal ≡ factNumber (a · r) d
-      → Finished (held bytes) slip goal index' slip' n → Written (credentials bytes N) (a · r) d slip n slip'
+  pub written : (a r d : ℕ) → IsEntity E d → ValidRole E R (a · r) → (slip index' slip' : List ℕ) (goal n : ℕ)
+      → goal ≡ factNumber (a · r) d → Finished (held bytes) slip goal index' slip' n → Written (credentials bytes N) (a · r) d slip n slip'
   written a r d i v slip index' slip' goal n g f =
       record { some-line = most .0; most-lines = most .1; right = right; once = once; rest = f .rest }
     where
@@ -115,22 +111,13 @@ module _ (bytes : List ℕ) (E R N : ℕ) (h : readOf bytes ≡ Accepted E R N) 
       cs = credentials bytes N
 
       within : ValidRole 32 16 (a · r) × IsEntity 32 d
-      within = let (entity, name, member) = question-within a r d i v in ((entity, name), member)
+      within = let (entity, name, member) = question-within bytes h a r d i v in ((entity, name), member)
 
       ledger : Ledger cs index' (linesOf slip' n)
       ledger = rw accepted-records (f .ledger)
 
-      entities : E ≤ 32
-      entities = held-entities bytes E accepted-is accepted-entities
-
-      valid : AllValid E 16 cs
-      valid = rw accepted-records (held-valid bytes E accepted-is accepted-entities)
-
-      few : length cs ≤ 240
-      few = rw accepted-records (held-few bytes E accepted-is accepted-entities)
-
       once : NoFactTwice cs (linesOf slip' n)
-      once = ledger-once E 16 entities (omega arith) cs valid index' (linesOf slip' n) ledger
+      once = ledger-once E 16 (held-entities bytes h) (omega arith) cs (held-valid bytes h) index' (linesOf slip' n) ledger
 
       last : Says cs (linesOf slip' n) n (a · r ∋ d)
       last =
@@ -141,4 +128,6 @@ module _ (bytes : List ℕ) (E R N : ℕ) (h : readOf bytes ≡ Accepted E R N) 
       right = record { right = ledger .right; last = rw length-linesOf last }
 
       most : (1 ≤ n) × (n ≤ 7680)
-      most = rw length-linesOf at (slip-most E 16 entities cs valid few (linesOf slip' n) (a · r) d right once)
+      most =
+          let slip-length = slip-most E 16 (held-entities bytes h) cs (held-valid bytes h) (held-few bytes h) _ (a · r) d right once in
+          rw length-linesOf at slip-length

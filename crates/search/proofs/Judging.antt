@@ -23,7 +23,12 @@ pub question-right : (bytes : List ℕ) (E R N d a r : ℕ) (found : Bool) → r
 question-right bytes E R N d a r found h e f =
     let (both, name) = or-false (outside E d || outside E a) (outside R r) (sym e ∙ f) in
     let (person, entity) = or-false (outside E d) (outside E a) both in
-    record { reading = h; person = omega (arith, inside E d person); entity = omega (arith, inside E a entity); name = omega (arith, inside R r name) }
+    record {
+      reading = h;
+      person = omega (arith, inside E d person);
+      entity = omega (arith, inside E a entity);
+      name = omega (arith, inside R r name);
+    }
 
 -- memory that is not too short is enough
 pub lent-enough : (m : Lent) → lentWrong m ≡ false → (512 ≤ length (m .sure)) × (512 ≤ length (m .possible)) × (61440 ≤ length (m .slip))

@@ -53,7 +53,8 @@ linesOf-same xs ys (suc n) h =
     )
 
 -- the line whose eight bytes stand from byte i
-line-there : (l : Line) (bytes : List ℕ) (i : ℕ) → ((j : ℕ) → j < 8 → getD bytes (i + j) 0 ≡ getD (bytesOfLine l) j 0) → lineFrom bytes i ≡ l
+line-there : (l : Line) (bytes : List ℕ) (i : ℕ) → ((j : ℕ) → j < 8 → getD bytes (i + j) 0 ≡ getD (bytesOfLine l) j 0)
+    → lineFrom bytes i ≡ l
 line-there (line D c p q s) bytes i h =
     let here : i + 0 ≡ i = omega arith in
     let member : getD bytes i 0 ≡ D = rw here at (h 0 (omega arith)) in

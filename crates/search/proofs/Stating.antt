@@ -18,8 +18,12 @@ use Rattle.rt0.proofs.Least.{valid-head}
 use Rattle.rt0.proofs.Says.{credential-occurs}
 use Rattle.rt0.proofs.SlipBytes.{length-linesOf}
 use Rattle.rt0.proofs.Bounds.{slip-most}
+use Rattle.bundle.specs.declared.read.Reading.the-variants.{Accepted}
 use Rattle.bundle.specs.declared.access.Record.{Record}
+use Rattle.bundle.specs.Layout.{namesOf, recordsOf}
+use Rattle.bundle.specs.Reading.{readOf}
 use Rattle.bundle.specs.Access.{recordOf, credentialOf}
+use Rattle.bundle.proofs.Accepted.{length-credentials}
 use Rattle.search.specs.declared.line.Premises.{Premises}
 use Rattle.search.specs.Give.{ValidRecord}
 use Rattle.search.specs.Fact.{factNumber, HasLine, Backed}
@@ -29,8 +33,8 @@ use Rattle.search.specs.Writing.{held, Writing, IsRecord, headFact, give
 use Rattle.search.proofs.Facts.{number-within, number-fact}
 use Rattle.search.proofs.Ledgers.{ledger-snoc, ledger-once}
 use Rattle.search.proofs.Premises.{premises-follow}
-use Rattle.search.proofs.Wider.{valid-wider}
-use Rattle.search.proofs.Held.{HeldRecord, held-entities, held-records, held-few, held-valid, held-record}
+use Rattle.search.proofs.Wider.{valid-wider, record-wider}
+use Rattle.search.proofs.Held.{HeldRecord, held-entities, held-few, held-valid, held-record, valid-record, writing-accepted}
 
 -- an entry that is set stays one, and the others stay
 entry-kept : (index : List ℕ) (f v g : ℕ) → f < length index → (v ≡ 0 → ⊥) → HasLine index g → HasLine (set index f v) g
@@ -111,21 +115,25 @@ module _ {cs : List Credential} {E : ℕ} {ws index slip : List ℕ} {n k : ℕ}
       }
 
 -- record k of an accepted bundle
-module _ {bytes : List ℕ} {E : ℕ} {ws index slip : List ℕ} {n : ℕ} (w : Writing bytes E ws index slip n) {k : ℕ} (i : IsRecord bytes k) where
-  this : HeldRecord bytes E k
-  this = held-record bytes E (w .sound) (w .entities) i
+module _ {bytes : List ℕ} {E : ℕ} {ws index slip : List ℕ} {n : ℕ} (w : Writing bytes E ws index slip n) {k : ℕ}
+    (i : IsRecord bytes k) where
+  reading : readOf bytes ≡ Accepted E (namesOf bytes) (recordsOf bytes)
+  reading = writing-accepted w
+
+  this : HeldRecord bytes E (recordsOf bytes) k
+  this = held-record bytes reading k (i .above) (i .within)
 
   pub entities-most : E ≤ 32
-  entities-most = held-entities bytes E (w .sound) (w .entities)
+  entities-most = held-entities bytes reading
 
   pub number-most : k ≤ 240
-  number-most = omega (arith, held-records bytes E (w .sound) (w .entities))
+  number-most = omega (arith, i .within, length-credentials bytes (recordsOf bytes), held-few bytes reading)
 
   pub record-valid : {r : Record} → r ≡ recordOf bytes k → ValidRecord E 16 r
-  record-valid e = rw (e, this .read) (this .valid)
+  record-valid e = rw e (valid-record bytes reading k (i .above) (i .within))
 
   pub record-valid-wide : {r : Record} → r ≡ recordOf bytes k → ValidRecord 32 16 r
-  record-valid-wide e = rw (e, this .read) (valid-wider entities-most (omega arith) (this .credential) (this .valid))
+  record-valid-wide e = record-wider entities-most (omega arith) e (valid-record bytes reading k (i .above) (i .within))
 
   -- it gives D, whose fact is new, and its premises are found
   module _ {D : ℕ} (member : IsEntity 32 D) (given : bit (givenBy bytes E ws k) (D - 1) ≡ 1)
@@ -134,8 +142,8 @@ module _ {bytes : List ℕ} {E : ℕ} {ws index slip : List ℕ} {n : ℕ} (w : 
     this-line : NextLine (held bytes) E ws index slip n k (this .credential) D (ps .first) (ps .second) (ps .third)
     this-line = record {
       entities = entities-most;
-      all-valid = held-valid bytes E (w .sound) (w .entities);
-      few = held-few bytes E (w .sound) (w .entities);
+      all-valid = held-valid bytes reading;
+      few = held-few bytes reading;
       ledger = w .ledger;
       backed = w .backed;
       numbered = this .numbered;

@@ -1,13 +1,13 @@
 -- Steps of a slip's writing: no line, more lines and more after them; up to a fact; at most one line more; and so a line for each member
 -- that a record gives.
-use Prim.Native.Nat.{ℕ, _+_, _-_, _*_, _<_, _≤_}
+use Prim.Native.Nat.{ℕ, _+_, _*_, _<_}
 use native.Mathlib.Decide.{ℕ-discrete}
 use native.Mathlib.Omega.{arith}
 use mathlib.Core.Path.{_≡_, refl, sym, _∙_}
 use mathlib.Core.Logic.{inl, inr, ⊎-elim, by-cases}
 use mathlib.Core.List.{List}
-use lib.ListN.{length, drop}
-use lib.Seq.{getD-set-same, getD-set-other, drop-drop}
+use lib.ListN.{length}
+use lib.Seq.{getD-set-same, getD-set-other}
 use Rattle.rt0.specs.Credential.{Credential}
 use Rattle.rt0.specs.Bytes.{linesOf}
 use Rattle.rt0.specs.Word.{bit}
@@ -15,6 +15,7 @@ use Rattle.rt0.proofs.Bits.{bit-cases}
 use Rattle.search.specs.Fact.{HasLine, Backed}
 use Rattle.search.specs.Ledger.{Ledger, Extended}
 use Rattle.search.specs.Writing.{held, Writing, NoneOrLast, OneMore, AtMostOneMore, Unsaid, Progress, AllStated}
+use Rattle.search.proofs.Comparing.{drop-later}
 
 -- ---- none, and two
 
@@ -22,14 +23,9 @@ pub extended-same : {cs : List Credential} {index slip : List ℕ} {n : ℕ} →
     → Extended cs index slip n index slip n
 extended-same ledger = record { ledger = ledger; size = refl; more = omega arith; rest = refl; keeps = λ f h. h }
 
--- lists that agree behind a place agree behind a later one
-drop-later : (xs ys : List ℕ) (a b : ℕ) → a ≤ b → drop a xs ≡ drop a ys → drop b xs ≡ drop b ys
-drop-later xs ys a b l e =
-    let split : a + (b - a) ≡ b = omega arith in
-    rw (← split, ← drop-drop (b - a) a xs, ← drop-drop (b - a) a ys, e)
-
-pub extended-twice : {cs : List Credential} {index slip : List ℕ} {n : ℕ} {index' slip' : List ℕ} {n' : ℕ} {index'' slip'' : List ℕ} {n'' : ℕ}
-    → Extended cs index slip n index' slip' n' → Extended cs index' slip' n' index'' slip'' n'' → Extended cs index slip n index'' slip'' n''
+pub extended-twice : {cs : List Credential} {index slip : List ℕ} {n : ℕ} {index' slip' : List ℕ} {n' : ℕ}
+    {index'' slip'' : List ℕ} {n'' : ℕ} → Extended cs index slip n index' slip' n' → Extended cs index' slip' n' index'' slip'' n''
+    → Extended cs index slip n index'' slip'' n''
 extended-twice {slip = slip} {slip' = slip'} {n' = n'} {n'' = n''} x y = record {
   ledger = y .ledger;
   size = y .size ∙ x .size;
@@ -52,8 +48,8 @@ writing-words w x said size backed = record {
 }
 
 -- with the same words
-pub writing-on : {bytes : List ℕ} {E : ℕ} {ws index slip : List ℕ} {n : ℕ} {index' slip' : List ℕ} {n' : ℕ} → Writing bytes E ws index slip n
-    → Extended (held bytes) index slip n index' slip' n' → Writing bytes E ws index' slip' n'
+pub writing-on : {bytes : List ℕ} {E : ℕ} {ws index slip : List ℕ} {n : ℕ} {index' slip' : List ℕ} {n' : ℕ}
+    → Writing bytes E ws index slip n → Extended (held bytes) index slip n index' slip' n' → Writing bytes E ws index' slip' n'
 writing-on {ws = ws} w x = writing-words w x ws (w .words) (λ f l h. x .keeps f (w .backed f l h))
 
 -- ---- up to a fact

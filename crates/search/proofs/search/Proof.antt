@@ -6,6 +6,14 @@ use Rattle.search.proofs.Judging.{refused-read, promise-by}
 use Rattle.search.proofs.search.Statement.{statement}
 use Rattle.search.proofs.search.Tie as tie
 
+-- backwards from the call of judge: the bundle is accepted
+abbrev accepted : tie.After-judge-arg3 → tie.After-reading
+accepted c = c .before .before .before .before
+
+-- backwards from the end: the answer
+abbrev answer : tie.After-slice-known6 → tie.After-judge
+answer c = c .before .before .before .before .before .before
+
 read-requires : tie.Need-read-requires
 read-requires c κs = search needs
 
@@ -20,7 +28,11 @@ enum-known-reading-3 c = search needs
 
 returns : tie.Need-returns
 returns c =
-    promise-by _ _ _ _ _ _ (sym (c .before .reading3 .given .1) ∙ sym (c .before .before .before .before .reading2 .given .1) ∙ c .before .before .before .before .before .before .read .ensures) (refused-read _ _ _ _ _)
+    let refused = c .before in
+    let other = refused .before .before .before in
+    promise-by _ _ _ _ _ _
+    (sym (refused .reading3 .given .1) ∙ sym (other .reading2 .given .1) ∙ other .before .before .read .ensures)
+    (refused-read _ _ _ _ _)
 
 enum-told : tie.Need-enum-told
 enum-told c = search needs
@@ -38,7 +50,7 @@ cast-judge-3 : tie.Need-cast-judge-3
 cast-judge-3 c = search needs
 
 judge-requires : tie.Need-judge-requires
-judge-requires c κs = sym (c .before .before .before .before .before .before .read .ensures) ∙ c .before .before .before .before .reading .given .1
+judge-requires c κs = sym (accepted c .before .before .read .ensures) ∙ accepted c .reading .given .1
 
 same-length : tie.Need-same-length
 same-length c = search needs
@@ -51,7 +63,9 @@ same-length-3 c = search needs
 
 returns-3 : tie.Need-returns-3
 returns-3 c =
-    promise-by _ _ _ _ _ _ (sym (c .before .before .before .before .before .before .before .before .before .before .before .reading .given .1) ∙ c .before .before .before .before .before .before .before .before .before .before .before .before .before .read .ensures) (c .before .before .before .before .before .before .judge .ensures)
+    promise-by _ _ _ _ _ _
+    (sym (accepted (answer c .before) .reading .given .1) ∙ accepted (answer c .before) .before .before .read .ensures)
+    (answer c .judge .ensures)
 
 pub search-spec : {M : Type 1} → statement M
 search-spec =

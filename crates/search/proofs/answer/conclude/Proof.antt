@@ -33,9 +33,11 @@ same-length c = search needs
 
 returns : tie.Need-returns
 returns c =
-    let start = c .before .before .before .before .before .before .before .before .before .before in
-    conclude-yes _ _ _ _ _ _ _ _ _ _ (start .pre .0) (start .pre .1) _ _ _ _ (c .before .before .before .before .before .holds .ensures) (c .before .before .before .before .if1 .taken)
-    (c .before .before .write-slip .ensures)
+    let call = c .before .before in
+    let test = call .before .before in
+    let start = test .before .before .before .before .before .before in
+    conclude-yes _ _ _ _ _ _ _ _ _ _ (start .pre .0) (start .pre .1) _ _ _ _ (test .before .holds .ensures) (test .if1 .taken)
+    (call .write-slip .ensures)
 
 holds-requires-2 : tie.Need-holds-requires-2
 holds-requires-2 c κs =
@@ -48,8 +50,9 @@ cast-t19 c = omega (arith, c .before .before .before .before .before .before .be
 
 returns-2 : tie.Need-returns-2
 returns-2 c =
-    let start = c .before .before .before .before .before .before .before .before in
-    conclude-unsure _ _ _ _ _ _ _ _ _ _ (start .pre .0) (start .pre .1) _ _ _ (c .before .before .before .holds .ensures) (c .before .before .if1 .left)
+    let test = c .before .before in
+    let start = test .before .before .before .before .before .before in
+    conclude-unsure _ _ _ _ _ _ _ _ _ _ (start .pre .0) (start .pre .1) _ _ _ (test .before .holds .ensures) (test .if1 .left)
     (c .before .holds2 .ensures) (c .if2 .taken)
 
 cast-t20 : tie.Need-cast-t20

@@ -27,7 +27,9 @@ same-length : tie.Need-same-length
 same-length c = search needs
 
 returns : tie.Need-returns
-returns c = filled _ _ _ (now (c .before .before .before .before .before .before .args .table)) _ _ (c .before .before .settle-sure .ensures)
+returns c =
+    let table = now (c .before .before .before .before .before .before .args .table) in
+    filled _ _ _ table _ _ (c .before .before .settle-sure .ensures)
 
 pub fill-sure-spec : {M : Type 1} → statement M
 fill-sure-spec =

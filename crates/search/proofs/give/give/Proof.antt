@@ -1,9 +1,8 @@
 -- `search::give::give` meets its contract.
 use native.Mathlib.Omega.{arith}
-use mathlib.Core.Path.{refl}
-use mathlib.Core.List.{List·Memᴰ·head, List·Memᴰ·tail}
 use borrow.Author.Needs.{needs}
 use Rattle.rt0.specs.Word.{giveWord, meetWord}
+use Rattle.search.proofs.Forms.{two-form, three-form}
 use Rattle.search.proofs.give.give.Statement.{statement}
 use Rattle.search.proofs.give.give.Tie as tie
 
@@ -42,14 +41,16 @@ enum-known-record-4 c = search needs
 role-word-requires-2 : tie.Need-role-word-requires-2
 role-word-requires-2 c κs =
     let told = c .before in
-    let valid = rw (told .record4 .given .1) at (told .before .before .before .pre .2) in
-    omega (arith, valid .1 .2 _ (List·Memᴰ·head refl))
+    let start = told .before .before .before in
+    let form = two-form _ (start .pre .1) _ (start .pre .2) _ _ _ (told .record4 .given .1) in
+    (start .pre .0, form .0 .0, form .0 .1)
 
 role-word-requires-3 : tie.Need-role-word-requires-3
 role-word-requires-3 c κs =
     let told = c .before .before in
-    let valid = rw (told .record4 .given .1) at (told .before .before .before .pre .2) in
-    omega (arith, valid .1 .2 _ (List·Memᴰ·tail (List·Memᴰ·head refl)))
+    let start = told .before .before .before in
+    let form = two-form _ (start .pre .1) _ (start .pre .2) _ _ _ (told .record4 .given .1) in
+    (start .pre .0, form .1 .0, form .1 .1)
 
 enum-known-record-5 : tie.Need-enum-known-record-5
 enum-known-record-5 c = search needs
@@ -57,20 +58,23 @@ enum-known-record-5 c = search needs
 role-word-requires-4 : tie.Need-role-word-requires-4
 role-word-requires-4 c κs =
     let told = c .before in
-    let valid = rw (told .record5 .given .1) at (told .before .before .before .pre .2) in
-    omega (arith, valid .1 .2 _ (List·Memᴰ·head refl))
+    let start = told .before .before .before in
+    let form = three-form _ (start .pre .1) _ (start .pre .2) _ _ _ _ (told .record5 .given .1) in
+    (start .pre .0, form .0 .0, form .0 .1)
 
 role-word-requires-5 : tie.Need-role-word-requires-5
 role-word-requires-5 c κs =
     let told = c .before .before in
-    let valid = rw (told .record5 .given .1) at (told .before .before .before .pre .2) in
-    omega (arith, valid .1 .2 _ (List·Memᴰ·tail (List·Memᴰ·head refl)))
+    let start = told .before .before .before in
+    let form = three-form _ (start .pre .1) _ (start .pre .2) _ _ _ _ (told .record5 .given .1) in
+    (start .pre .0, form .1 .0, form .1 .1)
 
 role-word-requires-6 : tie.Need-role-word-requires-6
 role-word-requires-6 c κs =
     let told = c .before .before .before in
-    let valid = rw (told .record5 .given .1) at (told .before .before .before .pre .2) in
-    omega (arith, valid .1 .2 _ (List·Memᴰ·tail (List·Memᴰ·tail (List·Memᴰ·head refl))))
+    let start = told .before .before .before in
+    let form = three-form _ (start .pre .1) _ (start .pre .2) _ _ _ _ (told .record5 .given .1) in
+    (start .pre .0, form .2 .0, form .2 .1)
 
 enum-told : tie.Need-enum-told
 enum-told c = search needs

@@ -1,7 +1,7 @@
 -- `search::round::use_record` meets its contract.
 use borrow.Author.Needs.{needs}
 use Rattle.search.proofs.Wider.{record-wider}
-use Rattle.search.proofs.Uses.{used-record}
+use Rattle.search.proofs.Rounds.{used-record}
 use Rattle.search.proofs.round.use_record.Statement.{statement}
 use Rattle.search.proofs.round.use_record.Tie as tie
 

@@ -6,6 +6,7 @@ use denote.Ref.{now}
 use mathlib.Core.Path.{_≡_, sym, _∙_}
 use Rattle.search.specs.Fact.{Backed}
 use Rattle.search.specs.Ledger.{Extended}
+use Rattle.search.proofs.Held.{writing-accepted}
 use Rattle.search.proofs.Rounds.{roundTo, round-none, round-more, round-all}
 use Rattle.search.specs.Writing.{held, Unsaid}
 use Rattle.search.proofs.Steps.{extended-same, extended-twice, writing-on, progress-stop, progress-end}
@@ -95,7 +96,7 @@ loop-again c =
       search needs,
       extended-twice (inv .1) (step .1 .extended),
       record { inside = inv .2 .inside; none = c .if1 .left },
-      round-more (pre .0) _ (omega arith) _ _ (inv .3) (rw (inv .6) at (step .0)),
+      round-more _ (writing-accepted (pre .0)) _ (omega arith) (inv .3) (rw (inv .6) at (step .0)),
       call .use-record .kept .1 .1 .1 .1 .1 .0 ∙ inv .4,
       step .1 .otherwise (c .if1 .left),
       inv .6,
@@ -116,10 +117,9 @@ same-length-6 c = c .before .loop .inv .1 .size
 
 returns-2 : tie.Need-returns-2 Inv-loop μ-loop
 returns-2 c =
-    let args = c .before .before .before .before .before .before .before .before .before .before .args in
+    let pre = c .before .before .before .before .before .before .before .before .before .before .pre in
     let inv = c .before .loop .inv in
-    let all = round-all (now (args .bundle)) (args .entities) (now (args .said)) (c .before .loop .number) (omega arith) in
-    progress-end (inv .1) (inv .2) (inv .3 ∙ all, inv .5)
+    progress-end (inv .1) (inv .2) (round-all _ (writing-accepted (pre .0)) _ (c .before .loop .number) (omega arith) (inv .3), inv .5)
 
 pub one-round-spec : {M : Type 1} → statement M
 one-round-spec =

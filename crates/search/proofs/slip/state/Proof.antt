@@ -39,7 +39,8 @@ premises-of-requires c κs =
 room : (c : tie.After-premises-of) → c .before .before .before .before .before .before .before .before .before .args .lines < 7680
 room c =
     let pre = c .before .before .before .before .before .before .before .before .before .pre in
-    line-room (pre .0) (pre .1) (pre .2) (pre .3) (pre .4) _ (c .before .before .before .before .record-at .ensures) (c .premises-of .ensures)
+    line-room (pre .0) (pre .1) (pre .2) (pre .3) (pre .4) _ (c .before .before .before .before .record-at .ensures)
+    (c .premises-of .ensures)
 
 write-line-requires : tie.Need-write-line-requires
 write-line-requires c κs =

@@ -4,7 +4,8 @@ use borrow.Author.Needs.{needs}
 use denote.Ref.{now}
 use mathlib.Core.Path.{refl}
 use Rattle.search.proofs.Stating.{entities-most, record-valid, record-valid-wide}
-use Rattle.search.proofs.Backing.{backed-more, none-new, record-used}
+use Rattle.search.proofs.Rounds.{used-record}
+use Rattle.search.proofs.Backing.{backed-more, none-new}
 use Rattle.search.proofs.Steps.{extended-same, progress-end}
 use Rattle.search.proofs.slip.use_record.Statement.{statement}
 use Rattle.search.proofs.slip.use_record.Tie as tie
@@ -44,7 +45,8 @@ returns c =
     let place = c .before .before .before .head-place in
     let given = c .before .before .give in
     let same = none-new (now (start .args .said)) (place .result) (given .result) (c .if1 .taken) in (
-      record-used (pre .0) (pre .1) _ _ _ (c .before .before .before .before .record-at .ensures) (place .ensures .0) (given .ensures),
+      used-record _ _ _ (c .before .before .before .before .record-at .ensures) (record-valid (pre .0) (pre .1) refl) (place .ensures .0)
+          (given .ensures),
       progress-end (extended-same (pre .0 .ledger)) (pre .4) (rw same (pre .3)),
     )
 
@@ -76,7 +78,7 @@ returns-2 c =
     let place = call .before .before .before .before .before .before .head-place in
     let given = call .before .before .before .before .before .give in
     let stated = call .state-members .ensures in (
-      record-used (pre .0) (pre .1) _ _ _ (read .record-at .ensures) (place .ensures .0) (given .ensures),
+      used-record _ _ _ (read .record-at .ensures) (record-valid (pre .0) (pre .1) refl) (place .ensures .0) (given .ensures),
       record {
         extended = stated .extended;
         last = stated .last;

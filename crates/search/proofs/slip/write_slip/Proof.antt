@@ -2,14 +2,15 @@
 use borrow.Author.Needs.{needs}
 use denote.Ref.{now}
 use Rattle.rt0.specs.Word.{noneWords}
-use Rattle.search.proofs.Finishing.{question-within, ready, written}
+use Rattle.search.proofs.Held.{question-within}
+use Rattle.search.proofs.Finishing.{ready, written}
 use Rattle.search.proofs.slip.write_slip.Statement.{statement}
 use Rattle.search.proofs.slip.write_slip.Tie as tie
 
 fact-number-requires : tie.Need-fact-number-requires
 fact-number-requires c κs =
     let start = c .before .before in
-    question-within (now (start .args .bundle)) _ _ _ (start .pre .0) _ _ _ (start .pre .1) (start .pre .2)
+    question-within (now (start .args .bundle)) (start .pre .0) _ _ _ (start .pre .1) (start .pre .2)
 
 slice-aggregate-write-rounds : tie.Need-slice-aggregate-write-rounds
 slice-aggregate-write-rounds c = search needs
