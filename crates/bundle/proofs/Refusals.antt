@@ -19,7 +19,7 @@ use Rattle.bundle.specs.declared.read.Reading.the-variants.{Accepted, Re
 use Rattle.bundle.specs.Lowest.{lowest}
 use Rattle.bundle.specs.Block.{block}
 use Rattle.bundle.specs.Layout.{entitiesOf, namesOf, recordsOf, firstWrong, blocksFor}
-use Rattle.bundle.specs.Reading.{lengthWrong, badCheck, badBeside, badRecord, accepted, readRecords, readBeside, readCount, readFirst, readChecks, readOf}
+use Rattle.bundle.specs.Reading.{lengthWrong, badCheck, badBeside, badRecord, accepted, readRecords, readBeside, readCount, readFirst, readChecks, readOf, numberOf, placeOf}
 use Rattle.bundle.specs.Rows.{LowestBelow, blocks, Row, row1, row2, row3, row4, row5, row6, Applies, Due}
 use Rattle.bundle.proofs.Lowest.{IsLowest, lowest-is, lowest-unique}
 use Rattle.bundle.proofs.Stages.{length-right, length-refused, length-passed, check-refused, check-passed, first-refused, first-passed, count-refused, count-passed, beside-refused, beside-passed, record-refused, record-passed}
@@ -216,3 +216,28 @@ accepted-due bytes E R N = (due (outcome bytes), given (outcome bytes))
         → (E ≡ entitiesOf bytes) × (R ≡ namesOf bytes) × (N ≡ recordsOf bytes) × NoRow bytes → answer ≡ Accepted E R N
     given (refused {number} {place} d) (e, r, n, none) = absurd (none number (place, d .row))
     given (passed _) (e, r, n, none) = cc
+
+-- the same in the paper's number and place of an answer
+pub number-due : (bytes : List ℕ) (number place : ℕ) → 1 ≤ number
+    → ((numberOf (readOf bytes) ≡ number) × (placeOf (readOf bytes) ≡ place)) ↔ Due bytes number place
+number-due bytes number place l = (due (outcome bytes), given (outcome bytes))
+  where
+    due : {answer : Reading} → Outcome bytes answer → (numberOf answer ≡ number) × (placeOf answer ≡ place) → Due bytes number place
+    due (refused d) (e, f) = subst₂ (Due bytes) e f d
+    due (passed none) (e, f) = absurd (omega arith)
+
+    given : {answer : Reading} → Outcome bytes answer → Due bytes number place → (numberOf answer ≡ number) × (placeOf answer ≡ place)
+    given (refused d) h = (due-number d h, due-place d h)
+    given (passed none) h = absurd (none number (place, h .row))
+
+-- number 0 exactly when no row applies
+pub number-none : (bytes : List ℕ) → (numberOf (readOf bytes) ≡ 0) ↔ ((number : ℕ) → Applies bytes number → ⊥)
+number-none bytes = (clear (outcome bytes), zero-then (outcome bytes))
+  where
+    clear : {answer : Reading} → Outcome bytes answer → numberOf answer ≡ 0 → NoRow bytes
+    clear (refused d) e = absurd (omega (arith, number-range (d .row)))
+    clear (passed none) e = none
+
+    zero-then : {answer : Reading} → Outcome bytes answer → NoRow bytes → numberOf answer ≡ 0
+    zero-then (refused {number} {place} d) none = absurd (none number (place, d .row))
+    zero-then (passed _) none = refl
