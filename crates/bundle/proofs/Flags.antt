@@ -1,7 +1,7 @@
--- What a flag of the layout tells where it is false: a byte is right.
+-- What a flag of the layout tells where it is false: a byte is right. And which of several flags hold.
 use Prim.Native.Nat.{ℕ, _<_, _≤_}
 use mathlib.Core.Path.{_≡_, refl}
-use mathlib.Core.Bool.{Bool, true, false, not, _&&_, true≢false}
+use mathlib.Core.Bool.{Bool, true, false, not, _&&_, _||_, true≢false}
 use mathlib.Core.Logic.{_⊎_, inl, inr}
 use native.Mathlib.Omega.{arith}
 use lib.Dec.{eqb, ltb}
@@ -39,3 +39,12 @@ pub above-flag : (most b : ℕ) → most < b → outside most b ≡ true
 above-flag most b l =
     let nonzero : b ≡ 0 → ⊥ = λ e. omega arith in
     rw (ne-eqb b 0 nonzero, lt-ltb most b l)
+
+-- one of two, and of three, tests that are not all false holds
+pub or-true : (a b : Bool) → (a || b) ≡ true → (a ≡ true) ⊎ (b ≡ true)
+or-true true b h = inl refl
+or-true false b h = inr h
+
+pub one-of-three : (a b c : Bool) → (a || b || c) ≡ true → (a ≡ true) ⊎ ((b ≡ true) ⊎ (c ≡ true))
+one-of-three true b c h = inl refl
+one-of-three false b c h = inr (or-true b c h)

@@ -21,6 +21,7 @@ use Rattle.bundle.specs.Block.{block}
 use Rattle.bundle.specs.Layout.{entitiesOf, namesOf, recordsOf, firstWrong, blocksFor}
 use Rattle.bundle.specs.Reading.{lengthWrong, badCheck, badBeside, badRecord, accepted, readRecords, readBeside, readCount, readFirst, readChecks, readOf, numberOf, placeOf}
 use Rattle.bundle.specs.Rows.{LowestBelow, blocks, Row, row1, row2, row3, row4, row5, row6, Applies, Due}
+use Rattle.bundle.proofs.Flags.{one-of-three}
 use Rattle.bundle.proofs.Lowest.{IsLowest, lowest-is, lowest-unique}
 use Rattle.bundle.proofs.Stages.{length-right, length-refused, length-passed, check-refused, check-passed, first-refused, first-passed, count-refused, count-passed, beside-refused, beside-passed, record-refused, record-passed}
 
@@ -104,11 +105,6 @@ lowest-stage test n place refuses row passes says =
     none : n ≤ least → (k : ℕ) × LowestBelow test n k → ⊥
     none l (k, r) = omega (arith, lowest-unique test n k least (is-lowest r) is)
 
-any-true : (a b c : Bool) → (a || b || c) ≡ true → (a ≡ true) ⊎ ((b ≡ true) ⊎ (c ≡ true))
-any-true true b c h = inl refl
-any-true false true c h = inr (inl refl)
-any-true false false c h = inr (inr h)
-
 -- The six stages.
 
 module _ (bytes : List ℕ) where
@@ -117,7 +113,7 @@ module _ (bytes : List ℕ) where
       let n = length bytes in
       let even = eqb (n % 512) 0 in
       let uneven : not even ≡ true → n % 512 ≡ 0 → ⊥ = λ e. eqb-false (n % 512) 0 (not-true even e) in
-      row1 (⊎-map (eqb-true n 0) (⊎-map (ltb-true 3584 n) uneven) (any-true (eqb n 0) (ltb 3584 n) (not even) h))
+      row1 (⊎-map (eqb-true n 0) (⊎-map (ltb-true 3584 n) uneven) (one-of-three (eqb n 0) (ltb 3584 n) (not even) h))
 
   length-stage : Stage bytes 1 (readOf bytes) (readChecks bytes (blocks bytes))
   length-stage =
@@ -171,7 +167,7 @@ module _ (bytes : List ℕ) where
 
 -- The answer.
 
-number-range : {bytes : List ℕ} {place number : ℕ} → Row bytes number place → (1 ≤ number) × (number ≤ 6)
+pub number-range : {bytes : List ℕ} {place number : ℕ} → Row bytes number place → (1 ≤ number) × (number ≤ 6)
 number-range (row1 r) = omega arith
 number-range (row2 r) = omega arith
 number-range (row3 r) = omega arith

@@ -27,9 +27,9 @@ use Rattle.bundle.specs.Rows.{row1, row2, row3, row4, row5, row6}
 use Rattle.bundle.specs.Rows.{Row as ReaderRow, Applies as ReaderApplies}
 use Rattle.bundle.proofs.Lowest.{Missed, IsLowest, lowest-is}
 use Rattle.bundle.proofs.Stages.{or-false}
-use Rattle.bundle.proofs.Flags.{inside}
+use Rattle.bundle.proofs.Flags.{inside, or-true, one-of-three}
 use Rattle.bundle.proofs.Accepted.{accepted-contents}
-use Rattle.bundle.proofs.Refusals.{refused-due as reader-refused-due, accepted-due as reader-accepted-due}
+use Rattle.bundle.proofs.Refusals.{number-range, refused-due as reader-refused-due, accepted-due as reader-accepted-due}
 use Rattle.checker.specs.declared.check.Checked.{Checked}
 use Rattle.checker.specs.declared.check.Checked.the-variants.{Accepted, Refused}
 use Rattle.checker.specs.Premise.{lineWrong}
@@ -46,14 +46,6 @@ either : (test : Bool) → (test ≡ true) ⊎ (test ≡ false)
 either true = inl refl
 either false = inr refl
 
-or-true : (a b : Bool) → (a || b) ≡ true → (a ≡ true) ⊎ (b ≡ true)
-or-true true b h = inl refl
-or-true false b h = inr h
-
-any-true : (a b c : Bool) → (a || b || c) ≡ true → (a ≡ true) ⊎ ((b ≡ true) ⊎ (c ≡ true))
-any-true true b c h = inl refl
-any-true false b c h = inr (or-true b c h)
-
 outside-told : (most b : ℕ) → outside most b ≡ true → Outside most b
 outside-told most b h = ⊎-map (eqb-true b 0) (ltb-true most b) (or-true (eqb b 0) (ltb most b) h)
 
@@ -62,14 +54,6 @@ not-outside most b h (inl e) = omega (arith, inside most b h)
 not-outside most b h (inr l) = omega (arith, inside most b h)
 
 -- Only one refusal is due.
-
-reader-range : {bundle : List ℕ} {place number : ℕ} → ReaderRow bundle number place → (1 ≤ number) × (number ≤ 6)
-reader-range (row1 r) = omega arith
-reader-range (row2 r) = omega arith
-reader-range (row3 r) = omega arith
-reader-range (row4 r) = omega arith
-reader-range (row5 r) = omega arith
-reader-range (row6 r) = omega arith
 
 own-range : {bundle slip : List ℕ} {D A r place number : ℕ} → OwnRow bundle D A r slip number place
     → (7 ≤ number) × (number ≤ 11) × (number ≡ 8 → ⊥)
@@ -104,8 +88,8 @@ module _ (bundle : List ℕ) (D A r : ℕ) (slip : List ℕ) where
 
   same-place : {p q number : ℕ} → Row bundle D A r slip number p → Row bundle D A r slip number q → Clear number → p ≡ q
   same-place (reader x) (reader y) clear = cc (reader-answers x clear, reader-answers y clear)
-  same-place (reader x) (own y) clear = absurd (omega (arith, reader-range x, own-range y))
-  same-place (own x) (reader y) clear = absurd (omega (arith, own-range x, reader-range y))
+  same-place (reader x) (own y) clear = absurd (omega (arith, number-range x, own-range y))
+  same-place (own x) (reader y) clear = absurd (omega (arith, own-range x, number-range y))
   same-place (own x) (own y) clear = own-place x y
 
   due-number : {n m p q : ℕ} → Due bundle D A r slip n p → Due bundle D A r slip m q → n ≡ m
@@ -139,7 +123,7 @@ module _ (bundle : List ℕ) (D A r : ℕ) (slip : List ℕ) where
   clear-more number l clear unsaid = below-more (λ n. Applies bundle D A r slip n → ⊥) number clear none
     where
       none : Applies bundle D A r slip number → ⊥
-      none (place, reader x) = omega (arith, reader-range x)
+      none (place, reader x) = omega (arith, number-range x)
       none (place, own x) = unsaid place x
 
   -- a stage either refuses, and its row says so, or hands on, and its row does not apply
@@ -157,7 +141,7 @@ module _ (bundle : List ℕ) (D A r : ℕ) (slip : List ℕ) where
   reader-due : {number place : ℕ} → readOf bundle ≡ reading.Refused number place → IsOutcome (checkOf bundle D A r slip)
   reader-due {number} {place} h =
       let due = reader-refused-due bundle number place .0 h in
-      let few = reader-range (due .row) in
+      let few = number-range (due .row) in
       let first : IsClear number = λ lower l (p, x). clear (due .first) lower l p x (few .1) in
       subst IsOutcome (reader-refused bundle D A r slip number place h) (refused (record { row = reader (due .row); first = first }))
     where
@@ -211,7 +195,7 @@ module _ (bundle : List ℕ) (D A r : ℕ) (slip : List ℕ) (h : readOf bundle 
       at-end clear = passed (λ number a. clear number (small number a) a)
         where
           small : (number : ℕ) → Applies bundle D A r slip number → number < 12
-          small number (place, reader x) = omega (arith, reader-range x)
+          small number (place, reader x) = omega (arith, number-range x)
           small number (place, own x) = omega (arith, own-range x)
 
   -- 10: the lines
@@ -252,7 +236,7 @@ module _ (bundle : List ℕ) (D A r : ℕ) (slip : List ℕ) (h : readOf bundle 
           let n = length slip in
           let even = eqb (n % 8) 0 in
           let uneven : not even ≡ true → n % 8 ≡ 0 → ⊥ = λ e. eqb-false (n % 8) 0 (not-true even e) in
-          row9 (⊎-map (eqb-true n 0) (⊎-map (ltb-true 61440 n) uneven) (any-true (eqb n 0) (ltb 61440 n) (not even) w))
+          row9 (⊎-map (eqb-true n 0) (⊎-map (ltb-true 61440 n) uneven) (one-of-three (eqb n 0) (ltb 61440 n) (not even) w))
 
       unsaid : slipLengthWrong (length slip) ≡ false → (place : ℕ) → OwnRow bundle D A r slip 9 place → ⊥
       unsaid w place (row9 (inl none)) = omega (arith, slip-length-right (length slip) w)
@@ -273,7 +257,7 @@ module _ (bundle : List ℕ) (D A r : ℕ) (slip : List ℕ) (h : readOf bundle 
       wrong w =
           let E = entitiesOf bundle in
           let R = namesOf bundle in
-          let which = any-true (outside E D) (outside E A) (outside R r) w in
+          let which = one-of-three (outside E D) (outside E A) (outside R r) w in
           row7 (⊎-map (outside-told E D) (⊎-map (outside-told E A) (outside-told R r)) which)
 
       unsaid : questionWrong (entitiesOf bundle) (namesOf bundle) D A r ≡ false → (place : ℕ) → OwnRow bundle D A r slip 7 place → ⊥

@@ -8,12 +8,12 @@ use mathlib.Core.List.{List}
 use Rattle.bundle.specs.declared.read.Reading.the-variants.{Refused}
 use Rattle.bundle.specs.Reading.{readOf}
 use Rattle.bundle.specs.Rows as bundle
-use Rattle.bundle.proofs.Refusals.{refused-due as reader-refused-due}
+use Rattle.bundle.proofs.Refusals.{number-range, refused-due as reader-refused-due}
 use Rattle.answers.specs.Answer.{Outcome, refusal}
 use Rattle.search.specs.Promise.{Question, Lent, Promise}
 use Rattle.demands.specs.Rows.{Row, reading, row7, row8, Applies, Due}
 use Rattle.demands.proofs.Result.{Clear, Result, refused, answered, result}
-use Rattle.demands.proofs.Result.{refused-number, answered-number, reader-range, row-number}
+use Rattle.demands.proofs.Result.{refused-number, answered-number, row-number}
 
 -- Only one refusal is due.
 
@@ -25,10 +25,10 @@ module _ (bytes : List ℕ) (q : Question) (m : Lent) where
 
   same-place : {number p r : ℕ} → Row bytes q m number p → Row bytes q m number r → Clear bytes q m number → p ≡ r
   same-place (reading x) (reading y) first = cc (reader-answers x first, reader-answers y first)
-  same-place (reading x) (row7 y) first = absurd (omega (arith, reader-range x))
-  same-place (reading x) (row8 y) first = absurd (omega (arith, reader-range x))
-  same-place (row7 x) (reading y) first = absurd (omega (arith, reader-range y))
-  same-place (row8 x) (reading y) first = absurd (omega (arith, reader-range y))
+  same-place (reading x) (row7 y) first = absurd (omega (arith, number-range x))
+  same-place (reading x) (row8 y) first = absurd (omega (arith, number-range x))
+  same-place (row7 x) (reading y) first = absurd (omega (arith, number-range y))
+  same-place (row8 x) (reading y) first = absurd (omega (arith, number-range y))
   same-place (row7 x) (row7 y) first = refl
   same-place (row8 x) (row8 y) first = refl
 

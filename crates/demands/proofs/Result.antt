@@ -14,8 +14,8 @@ use Rattle.bundle.specs.declared.read.Reading.the-variants.{Accepted, Refused}
 use Rattle.bundle.specs.Layout.{entitiesOf, namesOf, recordsOf, outside}
 use Rattle.bundle.specs.Reading.{accepted, readOf}
 use Rattle.bundle.specs.Rows as bundle
-use Rattle.bundle.proofs.Flags.{inside-flag}
-use Rattle.bundle.proofs.Refusals.{refused-due, accepted-due}
+use Rattle.bundle.proofs.Flags.{inside-flag, one-of-three}
+use Rattle.bundle.proofs.Refusals.{number-range, refused-due, accepted-due}
 use Rattle.answers.specs.Answer.{Outcome}
 use Rattle.search.specs.Promise.{Question, Lent, questionWrong, lentWrong, RefusedWith, AnsweredWith, unless, PromiseAfter, Promise}
 use Rattle.search.specs.Concluded.{Right}
@@ -53,25 +53,12 @@ answered-number a = ap (λ (x : Outcome). x .number) (a .answer .outcome)
 
 -- The numbers of the rows.
 
-pub reader-range : {bytes : List ℕ} {number place : ℕ} → bundle.Row bytes number place → (1 ≤ number) × (number ≤ 6)
-reader-range (bundle.row1 r) = omega arith
-reader-range (bundle.row2 r) = omega arith
-reader-range (bundle.row3 r) = omega arith
-reader-range (bundle.row4 r) = omega arith
-reader-range (bundle.row5 r) = omega arith
-reader-range (bundle.row6 r) = omega arith
-
 pub row-number : {bytes : List ℕ} {q : Question} {m : Lent} {number place : ℕ} → Row bytes q m number place → 1 ≤ number
-row-number (reading r) = reader-range r .0
+row-number (reading r) = number-range r .0
 row-number (row7 r) = omega arith
 row-number (row8 r) = omega arith
 
 -- Tests and what they tell.
-
-any-true : (a b c : Bool) → (a || b || c) ≡ true → (a ≡ true) ⊎ ((b ≡ true) ⊎ (c ≡ true))
-any-true true b c h = inl refl
-any-true false true c h = inr (inl refl)
-any-true false false c h = inr (inr h)
 
 no-entity : (E A : ℕ) → outside E A ≡ true → IsEntity E A → ⊥
 no-entity E A h i = true≢false (sym h ∙ inside-flag E A (i .above) (i .within))
@@ -81,16 +68,16 @@ no-name R r h i = true≢false (sym h ∙ inside-flag R r (i .above) (i .within)
 
 module _ (bytes : List ℕ) (q : Question) (before : Lent) where
   question-row : questionWrong (entitiesOf bytes) (namesOf bytes) q ≡ true → Row bytes q before 7 0
-  question-row h = row7 (⊎-map (no-entity _ _) (⊎-map (no-entity _ _) (no-name _ _)) (any-true _ _ _ h))
+  question-row h = row7 (⊎-map (no-entity _ _) (⊎-map (no-entity _ _) (no-name _ _)) (one-of-three _ _ _ h))
 
   lent-row : lentWrong before ≡ true → Row bytes q before 8 0
-  lent-row h = row8 (⊎-map (ltb-true _ _) (⊎-map (ltb-true _ _) (ltb-true _ _)) (any-true _ _ _ h))
+  lent-row h = row8 (⊎-map (ltb-true _ _) (⊎-map (ltb-true _ _) (ltb-true _ _)) (one-of-three _ _ _ h))
 
   -- Which numbers apply.
 
   -- what the reader refuses is due: the search's own rows have higher numbers
   reader-due : (number place : ℕ) → bundle.Due bytes number place → Due bytes q before number place
-  reader-due number place d = record { row = reading (d .row); first = first (reader-range (d .row) .1) }
+  reader-due number place d = record { row = reading (d .row); first = first (number-range (d .row) .1) }
     where
       first : number ≤ 6 → Clear bytes q before number
       first few lower l (p, reading r) = d .first lower l (p, r)
