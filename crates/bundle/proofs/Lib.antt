@@ -1,5 +1,6 @@
 -- The laws of the bundle's definitions. The crates above cite Accepted (what an accepted bundle is) and Refusals (when each
--- refusal is given). Passed, FirstBlock and ValidRecord hold what these need; the others serve the functions' own proofs.
+-- refusal is given). Determined: any two conforming answers are equal. Passed, FirstBlock and ValidRecord hold what Accepted needs; the
+-- others serve the functions' own proofs.
 pub mod Lowest
 pub mod Check
 pub mod Parts
@@ -10,3 +11,4 @@ pub mod FirstBlock
 pub mod ValidRecord
 pub mod Accepted
 pub mod Refusals
+pub mod Determined
