@@ -1,17 +1,19 @@
 -- Unless refused: YES exactly if RT0's least membership over the credentials held contains the person; NO exactly if they are no member
 -- under any completion; UNSURE in every other case. With YES the checker accepts the slip, with that number of lines.
-use Prim.Native.Nat.{ℕ, _*_, _≤_}
+use Prim.Native.Nat.{ℕ, _*_, _-_, _≤_}
 use native.Mathlib.Omega.{arith}
 use mathlib.Core.Path.{_≡_, refl, sym, ap, _∙_}
 use mathlib.Core.Bool.{cond}
-use mathlib.Core.Logic.{_↔_}
-use mathlib.Core.List.{List}
+use mathlib.Core.Logic.{_↔_, ⊎-elim}
+use mathlib.Core.List.{List, _++_, List·Memᴰ·append-cases}
 use lib.ListN.{length, take}
 use lib.Dec.{eqb}
-use Rattle.rt0.specs.Credential.{_·_}
+use Rattle.rt0.specs.Credential.{_·_, IsEntity, IsName, ValidRole}
 use Rattle.rt0.specs.Membership.{Member}
 use Rattle.rt0.specs.Table.{Rounds}
 use Rattle.rt0.specs.Completion.{openBy, No, Unsure, Verdict, YES, NO, UNSURE, Answers}
+use Rattle.rt0.specs.Word.{bit, wordAt}
+use Rattle.rt0.proofs.Least.{member-within}
 use Rattle.rt0.proofs.Possible.{answer-unique}
 use Rattle.bundle.specs.Layout.{entitiesOf, namesOf, recordsOf}
 use Rattle.bundle.specs.Record.{credentials}
@@ -95,3 +97,18 @@ module _ (bytes : List ℕ) (q : Question) (before after : Lent) (o : Outcome) (
       let w = written y in
       let inside = slip-inside _ _ cs (held .valid) (held .most-entities) few _ _ _ _ _ w (given .enough .2) in
       written-accepted bytes _ _ _ _ _ _ asked (after .slip) (o .lines) (w .some-line) (w .most-lines) inside (w .right)
+
+  -- words of entities or names beyond E or R hold nobody, and no word holds a number beyond E
+  pub sure-within : (A r D : ℕ) → IsEntity 32 A → IsName 16 r → IsEntity 32 D → bit (wordAt 16 (after .sure) (A · r)) (D - 1) ≡ 1
+      → ValidRole (entitiesOf bytes) (namesOf bytes) (A · r) × IsEntity (entitiesOf bytes) D
+  sure-within A r D a n d b =
+      let held = accepted-contents bytes _ _ _ (asked .read) in
+      member-within _ _ _ (held .valid) (A · r) D (given .answer .sure .shows A r D a n d .0 b)
+
+  pub possible-within : (A r D : ℕ) → IsEntity 32 A → IsName 16 r → IsEntity 32 D → bit (wordAt 16 (after .possible) (A · r)) (D - 1) ≡ 1
+      → ValidRole (entitiesOf bytes) (namesOf bytes) (A · r) × IsEntity (entitiesOf bytes) D
+  possible-within A r D a n d b =
+      let held = accepted-contents bytes _ _ _ (asked .read) in
+      let (ks, completion, m) = given .answer .possible .shows A r D a n d .0 b in
+      member-within _ _ (credentials bytes (recordsOf bytes) ++ ks)
+      (λ k i. ⊎-elim (held .valid k) (λ j. completion k j .0) (List·Memᴰ·append-cases (credentials bytes (recordsOf bytes)) i)) (A · r) D m
