@@ -1,6 +1,6 @@
 -- What an accepted bundle is: E, R, N, marks and records are what the bytes say, every record is valid over E and R, and the number
 -- of blocks fits. The crates above cite these laws and not the definitions' text.
-use Prim.Native.Nat.{ℕ, zero, suc, _+_, _-_, _*_, _/_, _≤_, _<_}
+use Prim.Native.Nat.{ℕ, zero, suc, _+_, _-_, _*_, _≤_, _<_}
 use native.Mathlib.Decide.{decLt}
 use native.Mathlib.Omega.{arith}
 use mathlib.Core.Path.{_≡_, refl, _∙_}
@@ -11,37 +11,40 @@ use borrow.Author.Tests.{le-ltb}
 use lib.ListN.{length, length-append, getElem?}
 use Rattle.rt0.specs.Credential.{Credential, Valid, AllValid, IsEntity, _∈_}
 use Rattle.rt0.specs.Slip.{item}
-use Rattle.bundle.specs.declared.read.Reading.the-variants.{Accepted}
-use Rattle.bundle.specs.declared.access.Mark.the-variants.{Present, Absent, Unmarked}
-use Rattle.bundle.specs.Block.{byteAt}
-use Rattle.bundle.specs.Layout.{entitiesOf, namesOf, blocksFor}
-use Rattle.bundle.specs.Record.{credentialFrom, recordBlock, recordStart, credentials}
-use Rattle.bundle.specs.Reading.{badRecord, readOf}
-use Rattle.bundle.specs.Access.{markOf, recordFrom, recordOf, credentialOf}
-use Rattle.bundle.proofs.Lowest.{Missed}
-use Rattle.bundle.proofs.Stages.{length-right}
 use Rattle.rt0.proofs.Items.{item-append, item-last}
-use Rattle.bundle.proofs.Flags.{inside-flag, above-flag}
-use Rattle.bundle.proofs.Passed.{accepted-passed}
+use Rattle.base.specs.Byte.{byteAt}
+use Rattle.base.proofs.Lowest.{Missed}
+use Rattle.base.proofs.Flags.{inside-flag, above-flag}
+use Rattle.block.specs.Block.{blockOf}
+use Rattle.records.specs.Bytes.{credentialIn}
+use Rattle.records.specs.Form.{recordIn, credentialOf}
+use Rattle.records.proofs.ValidRecord.{valid-record, record-is}
+use Rattle.bundle.specs.declared.read.Sizes.{Sizes}
+use Rattle.bundle.specs.declared.access.Mark.the-variants.{Present, Absent, Unmarked}
+use Rattle.bundle.specs.Layout.{entitiesOf, namesOf, recordsOf, blocksFor, recordBytes, badRecord}
+use Rattle.bundle.specs.Rows.{Accepts}
+use Rattle.bundle.specs.Access.{markOf, recordOf}
+use Rattle.bundle.specs.Held.{credentials, held}
+use Rattle.bundle.proofs.Stages.{length-right}
+use Rattle.bundle.proofs.Passed.{clear-passed}
 use Rattle.bundle.proofs.FirstBlock.{entities-right, names-right, records-right, mark-right, behind-right}
-use Rattle.bundle.proofs.ValidRecord.{valid-record, record-is}
 
 -- what an accepted bundle holds
-pub record Contents (bytes : List ℕ) (E R N : ℕ) : Type 0 where
-  pub entities : E ≡ byteAt bytes 1
-  pub names : R ≡ byteAt bytes 2
-  pub records : N ≡ byteAt bytes 3
-  pub some-entity : 1 ≤ E
-  pub most-entities : E ≤ 32
-  pub some-name : 1 ≤ R
-  pub most-names : R ≤ 16
-  pub most-records : N ≤ 240
-  pub size : length bytes ≡ 512 * blocksFor N
+pub record Contents (bytes : List ℕ) (s : Sizes) : Type 0 where
+  pub entities : s .entities ≡ byteAt bytes 1
+  pub names : s .names ≡ byteAt bytes 2
+  pub records : s .records ≡ byteAt bytes 3
+  pub some-entity : 1 ≤ s .entities
+  pub most-entities : s .entities ≤ 32
+  pub some-name : 1 ≤ s .names
+  pub most-names : s .names ≤ 16
+  pub most-records : s .records ≤ 240
+  pub size : length bytes ≡ 512 * blocksFor (s .records)
   -- every shelf up to E has a mark, and no other
-  pub marked : (A : ℕ) → IsEntity E A → (markOf bytes A ≡ Present) ⊎ (markOf bytes A ≡ Absent)
-  pub unmarked : (A : ℕ) → E < A → markOf bytes A ≡ Unmarked
+  pub marked : (A : ℕ) → IsEntity (s .entities) A → (markOf bytes A ≡ Present) ⊎ (markOf bytes A ≡ Absent)
+  pub unmarked : (A : ℕ) → s .entities < A → markOf bytes A ≡ Unmarked
   -- every credential is valid
-  pub valid : AllValid E R (credentials bytes N)
+  pub valid : AllValid (s .entities) (s .names) (held bytes)
 
 pub length-credentials : (bytes : List ℕ) (n : ℕ) → length (credentials bytes n) ≡ n
 unfolding credentials
@@ -50,7 +53,7 @@ length-credentials bytes (suc n) = rw (length-append, length-credentials bytes n
 
 -- credential i, counted from 0, is what record i says
 credential-item : (bytes : List ℕ) (n i : ℕ) → i < n
-    → getElem? (credentials bytes n) i ≡ some (credentialFrom (recordBlock bytes i) (recordStart i))
+    → getElem? (credentials bytes n) i ≡ some (credentialIn (recordBytes bytes i))
 unfolding credentials
 credential-item bytes zero i l = absurd (omega arith)
 credential-item bytes (suc n) i l = among (decLt i n) (credential-item bytes n i)
@@ -59,10 +62,10 @@ credential-item bytes (suc n) i l = among (decLt i n) (credential-item bytes n i
     earlier = credentials bytes n
 
     last : Credential
-    last = credentialFrom (recordBlock bytes n) (recordStart n)
+    last = credentialIn (recordBytes bytes n)
 
-    among : Dec (i < n) → (i < n → getElem? earlier i ≡ some (credentialFrom (recordBlock bytes i) (recordStart i)))
-        → getElem? (earlier ++ (last ∷ [])) i ≡ some (credentialFrom (recordBlock bytes i) (recordStart i))
+    among : Dec (i < n) → (i < n → getElem? earlier i ≡ some (credentialIn (recordBytes bytes i)))
+        → getElem? (earlier ++ (last ∷ [])) i ≡ some (credentialIn (recordBytes bytes i))
     among (yes k) before = item-append earlier (last ∷ []) i (rw length-credentials k) ∙ before k
     among (no k) before =
         let here : i ≡ n = omega arith in
@@ -77,14 +80,14 @@ valid-credentials bytes (suc n) h c m =
     among (List·Memᴰ·append-cases (credentials bytes n) m) (valid-credentials bytes n (λ j l. h j (omega arith)) c)
   where
     last : Credential
-    last = credentialFrom (recordBlock bytes n) (recordStart n)
+    last = credentialIn (recordBytes bytes n)
 
     among : (c ∈ credentials bytes n) ⊎ (c ∈ (last ∷ [])) → (c ∈ credentials bytes n → Valid (entitiesOf bytes) (namesOf bytes) c)
         → Valid (entitiesOf bytes) (namesOf bytes) c
     among (inl i) before = before i
     among (inr i) before =
         rw (List·Memᴰ·eq-of-singleton i)
-        (valid-record (entitiesOf bytes) (namesOf bytes) (recordBlock bytes n) (recordStart n) (h n (omega arith)))
+        (valid-record (entitiesOf bytes) (namesOf bytes) (recordBytes bytes n) (h n (omega arith)))
 
 -- the mark of A is what byte 3 + A says
 module _ (bytes : List ℕ) (A : ℕ) where
@@ -100,53 +103,57 @@ module _ (bytes : List ℕ) (A : ℕ) where
       far (yes m) = rw (above-flag 32 A m)
       far (no m) = let k : A ≤ 32 = omega arith in rw (inside-flag 32 A l k, h k)
 
-pub accepted-contents : (bytes : List ℕ) (E R N : ℕ) → readOf bytes ≡ Accepted E R N → Contents bytes E R N
-accepted-contents bytes E R N h =
-    let p = accepted-passed E R N bytes h in
+pub accepted-contents : (bytes : List ℕ) (s : Sizes) → Accepts bytes s → Contents bytes s
+accepted-contents bytes s h =
+    let p = clear-passed bytes (h .clear) in
     let (whole, most, size) = length-right (length bytes) (p .right-length) in
     let (some-entity, most-entities) = entities-right bytes (p .right-first) in
     let (some-name, most-names) = names-right bytes (p .right-first) in
     let most-records = records-right bytes (p .right-first) in
+    let E : s .entities ≡ entitiesOf bytes = cc (h .said) in
+    let R : s .names ≡ namesOf bytes = cc (h .said) in
+    let N : s .records ≡ recordsOf bytes = cc (h .said) in
     record {
-      entities = p .entities;
-      names = p .names;
-      records = p .records;
+      entities = E;
+      names = R;
+      records = N;
       some-entity = omega arith;
       most-entities = omega arith;
       some-name = omega arith;
       most-names = omega arith;
       most-records = omega arith;
-      size = rw (← p .right-count) size;
+      size = rw (N, ← p .right-count) size;
       marked = λ A e. mark-of bytes A (e .above) (omega arith) (mark-right bytes (p .right-first) (3 + A) (omega arith) (omega arith));
       unmarked = λ A l. no-mark bytes A (omega arith) (λ m. behind-right bytes (p .right-first) (3 + A) (omega arith) (omega arith));
-      valid = rw (p .entities, p .names) (valid-credentials bytes N (p .right-records));
+      valid = rw (E, R) (valid-credentials bytes (recordsOf bytes) (p .right-records));
     }
 
 -- record number i + 1 where the bundle is long enough
-record-of : (bytes : List ℕ) (i : ℕ) → i < 240 → 512 * (i / 40 + 1) + 512 ≤ length bytes
-    → recordOf bytes (suc i) ≡ recordFrom (recordBlock bytes i) (recordStart i)
+record-of : (bytes : List ℕ) (i : ℕ) → i < 240 → 512 * blockOf i + 512 ≤ length bytes → recordOf bytes (suc i) ≡ recordIn (recordBytes bytes i)
 unfolding recordOf
 record-of bytes i l m =
     let e : suc i - 1 ≡ i = omega arith in
-    rw (inside-flag 240 (suc i) (omega arith) l, e, le-ltb (length bytes) (512 * (i / 40 + 1) + 512) m)
+    rw (inside-flag 240 (suc i) (omega arith) l, e, le-ltb (length bytes) (512 * blockOf i + 512) m)
 
--- record number n is the credential of that number
-pub record-credential : (bytes : List ℕ) (E R N : ℕ) → readOf bytes ≡ Accepted E R N → (n : ℕ) → 1 ≤ n → n ≤ N
-    → credentialOf (recordOf bytes n) ≡ item (credentials bytes N) n
-record-credential bytes E R N h zero l m = absurd (omega arith)
-record-credential bytes E R N h (suc i) l m =
-    let p = accepted-passed E R N bytes h in
-    let c = accepted-contents bytes E R N h in
-    let small : i < 240 = omega (arith, c .most-records) in
-    let long : 512 * (i / 40 + 1) + 512 ≤ length bytes = omega (arith, c .size) in
-    rw (record-of bytes i small long, credential-item bytes N i m)
-    (record-is (entitiesOf bytes) (namesOf bytes) (recordBlock bytes i) (recordStart i) (p .right-records i m))
+module _ (bytes : List ℕ) (s : Sizes) (h : Accepts bytes s) where
+  -- record number n is the credential of that number
+  pub record-credential : (n : ℕ) → 1 ≤ n → n ≤ s .records → credentialOf (recordOf bytes n) ≡ item (held bytes) n
+  record-credential zero l m = absurd (omega arith)
+  record-credential (suc i) l m =
+      let p = clear-passed bytes (h .clear) in
+      let c = accepted-contents bytes s h in
+      let small : i < 240 = omega (arith, c .most-records) in
+      let long : 512 * blockOf i + 512 ≤ length bytes = omega (arith, c .size) in
+      let among : i < recordsOf bytes = omega (arith, c .records) in
+      rw (record-of bytes i small long, credential-item bytes (recordsOf bytes) i among)
+      (record-is (entitiesOf bytes) (namesOf bytes) (recordBytes bytes i) (p .right-records i among))
 
--- there is one
-pub record-there : (bytes : List ℕ) (E R N : ℕ) → readOf bytes ≡ Accepted E R N → (n : ℕ) → 1 ≤ n → n ≤ N
-    → (c : Credential) × (item (credentials bytes N) n ≡ some c)
-record-there bytes E R N h zero l m = absurd (omega arith)
-record-there bytes E R N h (suc i) l m = (credentialFrom (recordBlock bytes i) (recordStart i), credential-item bytes N i m)
+  -- there is one
+  pub record-there : (n : ℕ) → 1 ≤ n → n ≤ s .records → (c : Credential) × (item (held bytes) n ≡ some c)
+  record-there zero l m = absurd (omega arith)
+  record-there (suc i) l m =
+      let c = accepted-contents bytes s h in
+      (credentialIn (recordBytes bytes i), credential-item bytes (recordsOf bytes) i (omega (arith, c .records)))
 
 -- records appended after the last keep the earlier ones as they were
 pub records-kept : (bytes more : List ℕ) (N M : ℕ) (ks : List Credential) → credentials more M ≡ credentials bytes N ++ ks

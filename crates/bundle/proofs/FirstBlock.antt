@@ -7,12 +7,13 @@ use mathlib.Core.List.{List}
 use native.Mathlib.Omega.{arith}
 use lib.Dec.{eqb, ltb, leb}
 use borrow.Author.Tests.{lt-ltb, le-leb, eqb-true, ltb-false, not-false}
-use Rattle.bundle.specs.Block.{byteAt, block}
-use Rattle.bundle.specs.Layout.{outside, firstByteWrong, entitiesOf, firstWrong}
-use Rattle.bundle.proofs.Lowest.{any-false}
+use Rattle.base.specs.Byte.{byteAt}
+use Rattle.base.specs.Range.{outside}
+use Rattle.base.proofs.Lowest.{any-false}
+use Rattle.base.proofs.Flags.{or-false, and-false, either, inside}
+use Rattle.block.specs.Block.{block}
+use Rattle.bundle.specs.Layout.{firstByteWrong, entitiesOf, firstWrong}
 use Rattle.bundle.proofs.Parts.{first-byte}
-use Rattle.bundle.proofs.Stages.{or-false}
-use Rattle.bundle.proofs.Flags.{and-false, either, inside}
 
 -- byte i of block 0 is right
 record RightByte (E i b : ℕ) : Type 0 where

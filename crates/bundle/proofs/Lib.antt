@@ -1,14 +1,11 @@
--- The laws of the bundle's definitions. The crates above cite Accepted (what an accepted bundle is) and Refusals (when each
--- refusal is given). Determined: any two conforming answers are equal. Passed, FirstBlock and ValidRecord hold what Accepted needs; the
--- others serve the functions' own proofs.
-pub mod Lowest
-pub mod Check
+-- The laws of the bundle's definitions. The crates above cite Accepted (what an accepted bundle is), Refusals (what the reader's answer says,
+-- and the laws of its table) and Questions (a question within its range). Stages and Parts serve the functions' own proofs; Passed and
+-- FirstBlock hold what Accepted needs. Determined: any two answers of the reader are equal.
 pub mod Parts
 pub mod Stages
-pub mod Flags
+pub mod Refusals
 pub mod Passed
 pub mod FirstBlock
-pub mod ValidRecord
 pub mod Accepted
-pub mod Refusals
+pub mod Questions
 pub mod Determined

@@ -1,21 +1,19 @@
 -- The stages of the reader: each answers at the first refusal that applies, and else hands on.
 use Prim.Native.Nat.{ℕ, _+_, _-_, _*_, _/_, _%_, _<_, _≤_}
-use mathlib.Core.Path.{_≡_, refl}
-use mathlib.Core.Bool.{Bool, true, false, not, _||_, true≢false}
+use mathlib.Core.Path.{_≡_, refl, ap}
+use mathlib.Core.Bool.{Bool, true, false, not, _||_}
 use mathlib.Core.List.{List}
-use lib.ListN.{length}
+use lib.ListN.{length, take}
 use lib.Dec.{eqb, ltb}
 use native.Mathlib.Omega.{arith}
 use borrow.Author.Tests.{lt-ltb, le-ltb, eq-eqb, ne-eqb, eqb-true, eqb-false, ltb-false, not-false}
-use Rattle.bundle.specs.declared.read.Reading.the-variants.{Refused}
-use Rattle.bundle.specs.Lowest.{lowest}
-use Rattle.bundle.specs.Block.{block}
-use Rattle.bundle.specs.Layout.{recordsOf, firstWrong, blocksFor}
-use Rattle.bundle.specs.Reading.{lengthWrong, badCheck, badBeside, badRecord, accepted, readRecords, readBeside, readCount, readFirst, readChecks, readOf}
-
-pub or-false : (a b : Bool) → (a || b) ≡ false → (a ≡ false) × (b ≡ false)
-or-false true b h = absurd (true≢false h)
-or-false false b h = (refl, h)
+use Rattle.base.specs.Lowest.{lowest}
+use Rattle.base.proofs.Flags.{or-false}
+use Rattle.block.specs.Block.{block}
+use Rattle.bundle.specs.declared.read.Sizes.{Sizes}
+use Rattle.bundle.specs.declared.read.Reading.the-variants.{Accepted, Refused}
+use Rattle.bundle.specs.Layout.{lengthWrong, blocks, recordsOf, sizesIn, firstWrong, blocksFor, badCheck, badBeside, badRecord}
+use Rattle.bundle.specs.Reading.{recordTests, besideTests, countTests, firstTests, checkTests, readerTests, readBy, readOf}
 
 -- a right length is that of one to seven whole blocks
 pub length-right : (n : ℕ) → lengthWrong n ≡ false → (1 ≤ n / 512) × (n / 512 ≤ 7) × (n ≡ 512 * (n / 512))
@@ -27,51 +25,68 @@ length-right n h =
     let whole : n % 512 ≡ 0 = eqb-true (n % 512) 0 (not-false (eqb (n % 512) 0) m) in
     omega arith
 
+-- the sizes that block 0 says
+pub records-said : (bytes : List ℕ) (s : Sizes) → s ≡ sizesIn bytes → s .records ≡ recordsOf bytes
+records-said bytes s e = ap (λ (t : Sizes). t .records) e
+
 module _ (bytes : List ℕ) where
-  pub record-refused : (n i : ℕ) → n ≡ recordsOf bytes → i ≡ lowest (badRecord bytes) n → i < n → Refused 6 (i + 1) ≡ readRecords bytes
-  unfolding readRecords
-  record-refused n i e l h = rw (← e, ← l, lt-ltb i n h)
+  pub record-refused : (s : Sizes) (i : ℕ) → s ≡ sizesIn bytes → i ≡ lowest (badRecord bytes) (s .records) → i < s .records
+      → Refused 6 (i + 1) ≡ readBy bytes (recordTests bytes)
+  unfolding readBy recordTests
+  record-refused s i e l h =
+      rw (← records-said bytes s e, ← l, lt-ltb i (s .records) h)
 
-  pub record-passed : (n i : ℕ) → n ≡ recordsOf bytes → i ≡ lowest (badRecord bytes) n → n ≤ i → accepted bytes ≡ readRecords bytes
-  unfolding readRecords
-  record-passed n i e l h = rw (← e, ← l, le-ltb i n h)
+  pub record-passed : (s : Sizes) (i : ℕ) → s ≡ sizesIn bytes → i ≡ lowest (badRecord bytes) (s .records) → s .records ≤ i
+      → Accepted s ≡ readBy bytes (recordTests bytes)
+  unfolding readBy recordTests
+  record-passed s i e l h =
+      rw (← records-said bytes s e, ← l, le-ltb i (s .records) h, e)
 
-  pub beside-refused : (blocks j : ℕ) → j ≡ lowest (badBeside bytes) (blocks - 1) → j < blocks - 1 → Refused 5 (j + 1) ≡ readBeside bytes blocks
-  unfolding readBeside
-  beside-refused blocks j l h = rw (← l, lt-ltb j (blocks - 1) h)
+  pub beside-refused : (n j : ℕ) → n ≡ blocks bytes → j ≡ lowest (badBeside bytes) (n - 1) → j < n - 1
+      → Refused 5 (j + 1) ≡ readBy bytes (besideTests bytes)
+  unfolding readBy besideTests
+  beside-refused n j e l h = rw (← e, ← l, lt-ltb j (n - 1) h)
 
-  pub beside-passed : (blocks j : ℕ) → j ≡ lowest (badBeside bytes) (blocks - 1) → blocks - 1 ≤ j → readRecords bytes ≡ readBeside bytes blocks
-  unfolding readBeside
-  beside-passed blocks j l h = rw (← l, le-ltb j (blocks - 1) h)
+  pub beside-passed : (n j : ℕ) → n ≡ blocks bytes → j ≡ lowest (badBeside bytes) (n - 1) → n - 1 ≤ j
+      → readBy bytes (recordTests bytes) ≡ readBy bytes (besideTests bytes)
+  unfolding readBy besideTests
+  beside-passed n j e l h = rw (← e, ← l, le-ltb j (n - 1) h)
 
-  pub count-refused : (blocks : ℕ) → (blocks ≡ blocksFor (recordsOf bytes) → ⊥) → Refused 4 0 ≡ readCount bytes blocks
-  unfolding readCount
-  count-refused blocks h = rw (ne-eqb blocks (blocksFor (recordsOf bytes)) h)
+  pub count-refused : (s : Sizes) (n : ℕ) → s ≡ sizesIn bytes → n ≡ blocks bytes → (n ≡ blocksFor (s .records) → ⊥)
+      → Refused 4 0 ≡ readBy bytes (countTests bytes)
+  unfolding readBy countTests
+  count-refused s n d e h = rw (← e, ← records-said bytes s d, ne-eqb n (blocksFor (s .records)) h)
 
-  pub count-passed : (blocks : ℕ) → blocks ≡ blocksFor (recordsOf bytes) → readBeside bytes blocks ≡ readCount bytes blocks
-  unfolding readCount
-  count-passed blocks h = rw (eq-eqb blocks (blocksFor (recordsOf bytes)) h)
+  pub count-passed : (s : Sizes) (n : ℕ) → s ≡ sizesIn bytes → n ≡ blocks bytes → n ≡ blocksFor (s .records)
+      → readBy bytes (besideTests bytes) ≡ readBy bytes (countTests bytes)
+  unfolding readBy countTests
+  count-passed s n d e h = rw (← e, ← records-said bytes s d, eq-eqb n (blocksFor (s .records)) h)
 
-  pub first-refused : (blocks : ℕ) → firstWrong (block bytes 0) ≡ true → Refused 3 0 ≡ readFirst bytes blocks
-  unfolding readFirst
-  first-refused blocks h = rw h
+  pub first-refused : firstWrong (block bytes 0) ≡ true → Refused 3 0 ≡ readBy bytes (firstTests bytes)
+  unfolding readBy firstTests
+  first-refused h = rw h
 
-  pub first-passed : (blocks : ℕ) → firstWrong (block bytes 0) ≡ false → readCount bytes blocks ≡ readFirst bytes blocks
-  unfolding readFirst
-  first-passed blocks h = rw h
+  pub first-passed : firstWrong (block bytes 0) ≡ false → readBy bytes (countTests bytes) ≡ readBy bytes (firstTests bytes)
+  unfolding readBy firstTests
+  first-passed h = rw h
 
-  pub check-refused : (blocks k : ℕ) → k ≡ lowest (badCheck bytes) blocks → k < blocks → Refused 2 k ≡ readChecks bytes blocks
-  unfolding readChecks
-  check-refused blocks k l h = rw (← l, lt-ltb k blocks h)
+  pub check-refused : (k : ℕ) → k ≡ lowest (badCheck bytes) (blocks bytes) → k < blocks bytes → Refused 2 k ≡ readBy bytes (checkTests bytes)
+  unfolding readBy checkTests
+  check-refused k l h = rw (← l, lt-ltb k (blocks bytes) h)
 
-  pub check-passed : (blocks k : ℕ) → k ≡ lowest (badCheck bytes) blocks → blocks ≤ k → readFirst bytes blocks ≡ readChecks bytes blocks
-  unfolding readChecks
-  check-passed blocks k l h = rw (← l, le-ltb k blocks h)
+  pub check-passed : (k : ℕ) → k ≡ lowest (badCheck bytes) (blocks bytes) → blocks bytes ≤ k
+      → readBy bytes (firstTests bytes) ≡ readBy bytes (checkTests bytes)
+  unfolding readBy checkTests
+  check-passed k l h = rw (← l, le-ltb k (blocks bytes) h)
 
   pub length-refused : lengthWrong (length bytes) ≡ true → Refused 1 0 ≡ readOf bytes
-  unfolding readOf
+  unfolding readBy readerTests
   length-refused h = rw h
 
-  pub length-passed : lengthWrong (length bytes) ≡ false → readChecks bytes (length bytes / 512) ≡ readOf bytes
-  unfolding readOf
+  pub length-passed : lengthWrong (length bytes) ≡ false → readBy bytes (checkTests bytes) ≡ readOf bytes
+  unfolding readBy readerTests
   length-passed h = rw h
+
+-- what was found of the first 512 bytes holds of block 0
+pub found-first : (bytes : List ℕ) (found : Bool) → found ≡ firstWrong (take 512 bytes) → found ≡ firstWrong (block bytes 0)
+found-first bytes found e = e

@@ -1,10 +1,24 @@
--- The layout of block 0, and of what stands beside the records of a record block, byte by byte.
-use Prim.Native.Nat.{ℕ, _+_, _-_, _*_, _/_, min}
+-- The layout of block 0, and of what stands beside the records of a record block, byte by byte; and which blocks and records of a bundle are
+-- wrong. Blocks and records are counted here from 0: record i is the paper's number i + 1, record block j + 1 the paper's number j + 1.
+use Prim.Native.Nat.{ℕ, _+_, _-_, _*_, _/_, _%_, min}
 use mathlib.Core.Bool.{Bool, not, _&&_, _||_}
 use mathlib.Core.List.{List}
+use lib.ListN.{length, take, drop}
 use lib.Dec.{eqb, ltb, leb}
-use Rattle.bundle.specs.Lowest.{anyBelow}
-use Rattle.bundle.specs.Block.{byteAt}
+use Rattle.base.specs.Byte.{byteAt}
+use Rattle.base.specs.Range.{outside}
+use Rattle.base.specs.Lowest.{anyBelow}
+use Rattle.block.specs.Block.{block, checkWrong, blockOf, startOf}
+use Rattle.records.specs.Mistake.{recordWrong}
+use Rattle.bundle.specs.declared.read.Sizes.{Sizes}
+
+-- the length is 0, above 3,584 or no multiple of 512
+abbrev pub lengthWrong : ℕ → Bool
+lengthWrong n = eqb n 0 || ltb 3584 n || not (eqb (n % 512) 0)
+
+-- the number of blocks of a bundle
+abbrev pub blocks : List ℕ → ℕ
+blocks bytes = length bytes / 512
 
 -- what block 0 says, at the start of a bundle: E, R and N
 abbrev pub entitiesOf : List ℕ → ℕ
@@ -16,9 +30,8 @@ namesOf bytes = byteAt bytes 2
 abbrev pub recordsOf : List ℕ → ℕ
 recordsOf bytes = byteAt bytes 3
 
--- a number is not among 1 to most
-abbrev pub outside : ℕ → ℕ → Bool
-outside most b = eqb b 0 || ltb most b
+abbrev pub sizesIn : List ℕ → Sizes
+sizesIn bytes = record { entities = entitiesOf bytes; names = namesOf bytes; records = recordsOf bytes }
 
 -- byte i of block 0 is wrong: byte 0 is 1, bytes 1, 2 and 3 are E, R and N, byte 3 + A is the mark of shelf A, 1 or 2, for A
 -- up to E, and every byte behind the marks is 0
@@ -54,3 +67,19 @@ besideByteWrong j records i b =
 -- the bytes beside the records of record block j + 1 with so many records are wrong
 unfoldable pub besideWrong : ℕ → ℕ → List ℕ → Bool
 besideWrong j records b = anyBelow (λ i. besideByteWrong j records i (byteAt b i)) 510
+
+-- the check of block k of a bundle differs
+abbrev pub badCheck : List ℕ → ℕ → Bool
+badCheck bytes k = checkWrong (block bytes k)
+
+-- the bytes beside the records of record block j + 1 of a bundle are wrong
+abbrev pub badBeside : List ℕ → ℕ → Bool
+badBeside bytes j = besideWrong j (recordsIn (recordsOf bytes) j) (block bytes (j + 1))
+
+-- the twelve bytes of record i
+abbrev pub recordBytes : List ℕ → ℕ → List ℕ
+recordBytes bytes i = take 12 (drop (startOf i) (block bytes (blockOf i)))
+
+-- record i of a bundle is wrong over the E and R of its block 0
+abbrev pub badRecord : List ℕ → ℕ → Bool
+badRecord bytes i = recordWrong (entitiesOf bytes) (namesOf bytes) (recordBytes bytes i)

@@ -1,11 +1,10 @@
 -- The bundle, defined: what its bytes say and which are refused. The theorems about these definitions stand in proofs/.
--- Lowest: the lowest place at which a test holds. Block: a block and its check. Layout: block 0 and what stands beside the
--- records of a record block. Record: a record and the credential that it is. Reading: the whole answer for every list of bytes.
--- Access: marks and records by number. Rows: the table of refusals.
-pub mod Lowest
-pub mod Block
+-- Layout: block 0, what stands beside the records of a record block, and which blocks and records are wrong. Rows: the table of refusals,
+-- and what an answer of the reader comes to. Reading: the same answer as tests that compute. Access: marks and records by number.
+-- Held: the credentials of a bundle and its open roles. Question: what is asked, and when that is out of range.
 pub mod Layout
-pub mod Record
+pub mod Rows
 pub mod Reading
 pub mod Access
-pub mod Rows
+pub mod Held
+pub mod Question

@@ -1,44 +1,59 @@
--- The rows of the table of refusals, 1 to 6: when each applies to a list of bytes, and at which place.
-use Prim.Native.Nat.{ℕ, suc, _-_, _/_, _%_, _<_}
+-- The reader's table of refusals, in the paper's order: when each row applies to a list of bytes, and at which place. And what an answer of
+-- the reader comes to by it, in the paper's number and place.
+use Prim.Native.Nat.{ℕ, _-_, _%_, _<_}
 use mathlib.Core.Path.{_≡_}
-use mathlib.Core.Bool.{Bool, true, false}
+use mathlib.Core.Bool.{true}
 use mathlib.Core.Logic.{_⊎_}
-use mathlib.Core.List.{List}
+use mathlib.Core.List.{List, [], _∷_}
 use lib.ListN.{length}
-use Rattle.bundle.specs.Block.{block}
-use Rattle.bundle.specs.Layout.{recordsOf, firstWrong, blocksFor}
-use Rattle.bundle.specs.Reading.{badCheck, badBeside, badRecord}
+use Rattle.base.specs.Lowest.{LowestBelow}
+use Rattle.base.specs.Refusals.{Row, row, AtZero, FromOne, Clear, Judged}
+use Rattle.block.specs.Block.{block}
+use Rattle.bundle.specs.declared.read.Sizes.{Sizes}
+use Rattle.bundle.specs.declared.read.Reading.{Reading}
+use Rattle.bundle.specs.declared.read.Reading.the-variants.{Accepted, Refused}
+use Rattle.bundle.specs.Layout.{blocks, recordsOf, sizesIn, firstWrong, blocksFor, badCheck, badBeside, badRecord}
 
--- k is below n, the test holds at k, and at none below k
-pub record LowestBelow (test : ℕ → Bool) (n k : ℕ) : Type 0 where
-  pub below : k < n
-  pub holds : test k ≡ true
-  pub lowest : (j : ℕ) → j < k → test j ≡ false
+-- length is 0, above 3,584 or no multiple of 512
+abbrev pub LengthWrong : ℕ → Type 0
+LengthWrong n = (n ≡ 0) ⊎ ((3584 < n) ⊎ (n % 512 ≡ 0 → ⊥))
 
--- the number of blocks of a bundle
-abbrev pub blocks : List ℕ → ℕ
-blocks bytes = length bytes / 512
+abbrev pub readerRows : List ℕ → List Row
+readerRows bytes =
+    row 1 (AtZero (LengthWrong (length bytes)))
+    -- some block's check differs; the lowest such block
+    ∷ row 2 (LowestBelow (badCheck bytes) (blocks bytes))
+    -- block 0 breaks its layout
+    ∷ row 3 (AtZero (firstWrong (block bytes 0) ≡ true))
+    -- the number of blocks does not fit N
+    ∷ row 4 (AtZero (blocks bytes ≡ blocksFor (recordsOf bytes) → ⊥))
+    -- a record block's bytes beside its records are wrong; the lowest such block
+    ∷ row 5 (FromOne (LowestBelow (badBeside bytes) (blocks bytes - 1)))
+    -- a record is wrong; the lowest such record
+    ∷ row 6 (FromOne (LowestBelow (badRecord bytes) (recordsOf bytes)))
+    ∷ []
 
--- the rows by their number and place; no other number has one
-pub data Row (bytes : List ℕ) : ℕ → ℕ → Type 0 where
-  -- length is 0, above 3,584 or no multiple of 512
-  row1 : (length bytes ≡ 0) ⊎ ((3584 < length bytes) ⊎ (length bytes % 512 ≡ 0 → ⊥)) → Row bytes 1 0
-  -- some block's check differs; the lowest such block
-  row2 : {k : ℕ} → LowestBelow (badCheck bytes) (blocks bytes) k → Row bytes 2 k
-  -- block 0 breaks its layout
-  row3 : firstWrong (block bytes 0) ≡ true → Row bytes 3 0
-  -- the number of blocks does not fit N
-  row4 : (blocks bytes ≡ blocksFor (recordsOf bytes) → ⊥) → Row bytes 4 0
-  -- a record block's bytes beside its records are wrong; the lowest such block, numbered from 1
-  row5 : {j : ℕ} → LowestBelow (badBeside bytes) (blocks bytes - 1) j → Row bytes 5 (suc j)
-  -- a record is wrong; the lowest such record, numbered from 1
-  row6 : {i : ℕ} → LowestBelow (badRecord bytes) (recordsOf bytes) i → Row bytes 6 (suc i)
+-- the paper's number and place of an answer, and the sizes that it says
+abbrev pub numberOf : Reading → ℕ
+numberOf (Accepted s) = 0
+numberOf (Refused number place) = number
 
--- a number's row says so at some place
-abbrev pub Applies : List ℕ → ℕ → Type 0
-Applies bytes number = (place : ℕ) × Row bytes number place
+abbrev pub placeOf : Reading → ℕ
+placeOf (Accepted s) = 0
+placeOf (Refused number place) = place
 
--- the refusal with this number and place is due: its row says so, and no lower number applies
-pub record Due (bytes : List ℕ) (number place : ℕ) : Type 0 where
-  pub row : Row bytes number place
-  pub first : (lower : ℕ) → lower < number → Applies bytes lower → ⊥
+abbrev pub noSizes : Sizes
+noSizes = record { entities = 0; names = 0; records = 0 }
+
+abbrev pub sizesOf : Reading → Sizes
+sizesOf (Accepted s) = s
+sizesOf (Refused number place) = noSizes
+
+-- this is the reader's answer to the bytes: the refusal that is due, or, where no row applies, what block 0 says
+abbrev pub Reads : List ℕ → Reading → Type 0
+Reads bytes r = Judged (readerRows bytes) (numberOf r) (placeOf r) (sizesOf r ≡ noSizes) (sizesOf r ≡ sizesIn bytes)
+
+-- the bytes are a bundle of these sizes: no row applies, and block 0 says so
+pub record Accepts (bytes : List ℕ) (s : Sizes) : Type 0 where
+  pub clear : Clear (readerRows bytes)
+  pub said : s ≡ sizesIn bytes

@@ -2,19 +2,12 @@
 ghost use mathlib.Core.Path.{_≡_};
 ghost use Prim.Native.Nat.{_+_, _-_, _*_, _<_, _≤_};
 ghost use lib.ListN.{length};
-ghost use Rattle.bundle.specs.Layout.{outside as outsideOf, firstByteWrong, firstWrong, recordsIn, besideByteWrong, besideWrong, recordsOf};
-ghost use Rattle.bundle.specs.Lowest.{lowest};
-ghost use Rattle.bundle.specs.Block.{byteAt};
-ghost use Rattle.bundle.specs.Reading.{badBeside};
-use crate::block::Block;
-use crate::block::byte;
-
-// Whether a number is not among 1 to most.
-pub fn outside(most: usize, b: usize) -> bool
-    ensures { λ r. ⌜ r ≡ outsideOf most b ⌝ }
-{
-    (b == 0) | (most < b)
-}
+ghost use Rattle.bundle.specs.Layout.{firstByteWrong, firstWrong, recordsIn, besideByteWrong, besideWrong, recordsOf, badBeside};
+ghost use Rattle.base.specs.Lowest.{lowest};
+ghost use Rattle.base.specs.Byte.{byteAt};
+use base::byte;
+use base::outside;
+use block::Block;
 
 // Whether byte i of block 0 is wrong.
 fn first_byte_wrong(first: &[u8], i: usize) -> bool

@@ -3,7 +3,7 @@ use native.Mathlib.Omega.{arith}
 use borrow.Author.Needs.{needs}
 use mathlib.Core.Path.{sym, _∙_}
 use borrow.Author.Tests.{ne-eqb}
-use Rattle.bundle.proofs.Flags.{inside}
+use Rattle.base.proofs.Flags.{inside}
 use Rattle.bundle.proofs.access.mark_at.Statement.{statement}
 use Rattle.bundle.proofs.access.mark_at.Tie as tie
 

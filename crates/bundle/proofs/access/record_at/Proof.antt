@@ -4,7 +4,7 @@ use borrow.Author.Needs.{needs}
 use mathlib.Core.Path.{sym, _∙_}
 use denote.Ref.{now}
 use Rattle.bundle.specs.Access.{recordOf}
-use Rattle.bundle.proofs.Flags.{inside}
+use Rattle.base.proofs.Flags.{inside}
 use Rattle.bundle.proofs.Parts.{record-cut, record-read}
 use Rattle.bundle.proofs.access.record_at.Statement.{statement}
 use Rattle.bundle.proofs.access.record_at.Tie as tie
@@ -35,24 +35,24 @@ returns-2 c =
     let w = c .before .before in
     record-cut (now (w .before .before .before .args .bundle)) _ _ (sym (w .before .outside .ensures) ∙ w .if1 .left) (c .before .after .ensures .0) (c .if2 .taken)
 
-sub-record-from : tie.Need-sub-record-from
-sub-record-from c = search needs
+sub-record-in : tie.Need-sub-record-in
+sub-record-in c = search needs
 
-part-record-from-start : tie.Need-part-record-from-start
-part-record-from-start c = search needs
+part-record-in-start : tie.Need-part-record-in-start
+part-record-in-start c = search needs
 
-part-record-from-end : tie.Need-part-record-from-end
-part-record-from-end c = search needs
+part-record-in-end : tie.Need-part-record-in-end
+part-record-in-end c = search needs
 
-record-from-requires : tie.Need-record-from-requires
-record-from-requires c κs = search needs
+record-in-requires : tie.Need-record-in-requires
+record-in-requires c κs = search needs
 
 returns-3 : tie.Need-returns-3
 returns-3 c =
     let w = c .before .before .before .before in
     let place = c .before .before .before .after .ensures in
     record-read (now (w .before .before .before .args .bundle)) _ _ _ _ (sym (w .before .outside .ensures) ∙ w .if1 .left) (place .0) (place .1)
-    (c .before .before .if2 .left) (c .record-from .ensures)
+    (c .before .before .if2 .left) (c .record-in .ensures)
 
 pub record-at-spec : {M : Type 1} → statement M
 record-at-spec =
@@ -65,8 +65,8 @@ record-at-spec =
     mul-start
     add-end
     returns-2
-    sub-record-from
-    part-record-from-start
-    part-record-from-end
-    record-from-requires
+    sub-record-in
+    part-record-in-start
+    part-record-in-end
+    record-in-requires
     returns-3)

@@ -2,9 +2,9 @@
 use Prim.Native.Nat.{_-_, _≤_}
 use mathlib.Core.Path.{sym, _∙_}
 use borrow.Author.Needs.{needs}
-use Rattle.bundle.specs.Block.{byteAt}
+use Rattle.base.specs.Byte.{byteAt}
 use Rattle.bundle.specs.Layout.{firstByteWrong, firstWrong}
-use Rattle.bundle.proofs.Lowest.{Missed, missed-none, missed-more, any-hit, any-none}
+use Rattle.base.proofs.Lowest.{Missed, missed-none, missed-more, any-hit, any-none}
 use Rattle.bundle.proofs.layout.first_wrong.Statement.{statement}
 use Rattle.bundle.proofs.layout.first_wrong.Tie as tie
 

@@ -2,8 +2,8 @@
 use Prim.Native.Nat.{_-_, _≤_}
 use mathlib.Core.Path.{sym, _∙_}
 use borrow.Author.Needs.{needs}
-use Rattle.bundle.specs.Reading.{badBeside}
-use Rattle.bundle.proofs.Lowest.{Missed, missed-none, missed-more, lowest-hit, lowest-none}
+use Rattle.bundle.specs.Layout.{badBeside}
+use Rattle.base.proofs.Lowest.{Missed, missed-none, missed-more, lowest-hit, lowest-none}
 use Rattle.bundle.proofs.layout.lowest_bad_beside.Statement.{statement}
 use Rattle.bundle.proofs.layout.lowest_bad_beside.Tie as tie
 

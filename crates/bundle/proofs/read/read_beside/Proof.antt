@@ -1,13 +1,10 @@
 -- `bundle::read::read_beside` meets its contract.
-use borrow.Author.Needs.{needs}
-use mathlib.Core.Path.{_∙_}
 use denote.Ref.{now}
-use Rattle.bundle.proofs.Stages.{beside-refused, beside-passed}
+use mathlib.Core.Path.{sym, _∙_}
+use Rattle.bundle.proofs.Stages.{records-said, beside-refused, beside-passed}
+use borrow.Author.Needs.{needs}
 use Rattle.bundle.proofs.read.read_beside.Statement.{statement}
 use Rattle.bundle.proofs.read.read_beside.Tie as tie
-
-byte-requires : tie.Need-byte-requires
-byte-requires c κs = search needs
 
 sub-lowest-bad-beside : tie.Need-sub-lowest-bad-beside
 sub-lowest-bad-beside c = search needs
@@ -26,21 +23,21 @@ cast-t8 c = search needs
 
 returns : tie.Need-returns
 returns c =
-    beside-refused (now (c .before .before .before .before .args .bundle)) _ _ (c .before .lowest-bad-beside .ensures) (c .if1 .taken)
+    let start = c .before .before .before in
+    beside-refused (now (start .args .bundle)) _ _ (start .pre .1) (c .before .lowest-bad-beside .ensures) (c .if1 .taken)
 
 read-records-requires : tie.Need-read-records-requires
 read-records-requires c κs = search needs
 
 returns-2 : tie.Need-returns-2
 returns-2 c =
-    c .read-records .ensures
-    ∙ beside-passed (now (c .before .before .before .before .before .args .bundle)) _ _ (c .before .before .lowest-bad-beside .ensures) (c .before .if1 .left)
+    let start = c .before .before .before .before in
+    c .read-records .ensures ∙ beside-passed (now (start .args .bundle)) _ _ (start .pre .1) (c .before .before .lowest-bad-beside .ensures) (c .before .if1 .left)
 
 pub read-beside-spec : {M : Type 1} → statement M
 read-beside-spec =
     tie.close
     (tie.spec
-    byte-requires
     sub-lowest-bad-beside
     lowest-bad-beside-requires
     sub-if1

@@ -1,8 +1,8 @@
 -- `bundle::read::read_first` meets its contract.
-use borrow.Author.Needs.{needs}
-use mathlib.Core.Path.{_∙_, sym}
 use denote.Ref.{now}
-use Rattle.bundle.proofs.Stages.{first-refused, first-passed}
+use mathlib.Core.Path.{sym, _∙_}
+use Rattle.bundle.proofs.Stages.{first-refused, first-passed, found-first}
+use borrow.Author.Needs.{needs}
 use Rattle.bundle.proofs.read.read_first.Statement.{statement}
 use Rattle.bundle.proofs.read.read_first.Tie as tie
 
@@ -23,16 +23,20 @@ first-wrong-requires c κs = search needs
 
 returns : tie.Need-returns
 returns c =
-    first-refused (now (c .before .before .before .before .args .bundle)) _
-    (sym (c .before .first-wrong .ensures) ∙ c .if1 .taken)
+    let bytes = now (c .before .before .before .before .args .bundle) in
+    first-refused bytes (sym (found-first bytes _ (c .before .first-wrong .ensures)) ∙ c .if1 .taken)
+
+sizes-of-requires : tie.Need-sizes-of-requires
+sizes-of-requires c κs = search needs
 
 read-count-requires : tie.Need-read-count-requires
 read-count-requires c κs = search needs
 
 returns-2 : tie.Need-returns-2
 returns-2 c =
-    c .read-count .ensures ∙ first-passed (now (c .before .before .before .before .before .args .bundle)) _
-    (sym (c .before .before .first-wrong .ensures) ∙ c .before .if1 .left)
+    let w = c .before .before in
+    let bytes = now (w .before .before .before .before .args .bundle) in
+    c .read-count .ensures ∙ first-passed bytes (sym (found-first bytes _ (w .before .first-wrong .ensures)) ∙ w .if1 .left)
 
 pub read-first-spec : {M : Type 1} → statement M
 read-first-spec =
@@ -44,5 +48,6 @@ read-first-spec =
     part-first-wrong-end
     first-wrong-requires
     returns
+    sizes-of-requires
     read-count-requires
     returns-2)
