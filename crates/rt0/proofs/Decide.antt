@@ -16,6 +16,7 @@ use Rattle.rt0.specs.Table.{Rounds}
 use Rattle.rt0.specs.Completion.{Open, Verdict, YES, NO, UNSURE, Answers}
 use Rattle.rt0.specs.Word.{bit, wordAt, noneWords, openWords, Settled, Shows, Fits}
 use Rattle.rt0.proofs.Heads.{heads-few}
+use Rattle.rt0.proofs.Books.{book-numbers}
 use Rattle.rt0.proofs.Possible.{Possible, answer-from, answer-right}
 use Rattle.rt0.proofs.Shown.{none-fits, open-fits}
 use Rattle.rt0.proofs.Tests.{both-true, every, every-true}
@@ -116,7 +117,7 @@ module _ (E R B W : ℕ) (e : E ≤ B) (r : R ≤ W) (isOpen : Open) (cs : List 
   verdict-right ρ D false false s p = answer-right E R isOpen cs v ρ D (inr (λ m. false≢true (s .1 m))) (inr (λ m. false≢true (p .1 m)))
 
   rest-settled : (start : List ℕ) → Fits E B W start → Settled E W cs start (atRest E W cs start .rounds) (atRest E W cs start .words)
-  rest-settled start f = settled-by E R B W e r cs v start f (E * length cs) (mul-le-mul-left E (heads-few cs))
+  rest-settled start f = settled-by E R B W e r cs v start f (E * length cs) (mul-le-mul-left E (heads-few (book-numbers cs)))
 
   -- the verdict answers, and the rounds are those of the tables
   pub answer-words : (ρ : Role) (D : ℕ) → ValidRole B W ρ → IsEntity B D

@@ -1,6 +1,6 @@
 -- The distinct heads of a list of credentials are the heads of its credentials, each once. And the facts over a list of roles:
 -- the members 1 to E in each role. There are E of them for each role, which bounds what can be stated at all.
-use Prim.Native.Nat.{ℕ, zero, suc, _*_, _≤_}
+use Prim.Native.Nat.{ℕ, zero, suc, _*_, _≤_, _<_}
 use native.Mathlib.Nat.{mul-suc}
 use native.Mathlib.Omega.{arith}
 use mathlib.Core.Path.{_≡_, refl, ap}
@@ -11,9 +11,10 @@ use lib.ListN.{length, getElem?, length-append, length-map}
 use lib.Dec.{eqb}
 use borrow.Author.Tests.{eqb-true, eq-eqb}
 use Rattle.rt0.specs.Credential.{Role, _·_, Credential, head, _∈_, IsEntity}
-use Rattle.rt0.specs.Table.{sameRole, occurs, unless, distinctHeads}
+use Rattle.rt0.specs.Table.{sameRole, occurs, addedUnless, distinctHeads}
+use Rattle.rt0.specs.Book.{Book, Numbers}
 use Rattle.rt0.specs.Slip.{Fact, _∋_}
-use Rattle.rt0.proofs.Items.{item-occurs}
+use Rattle.rt0.proofs.Items.{item-occurs, item-there, pigeonhole}
 use Rattle.rt0.proofs.Lists.{flatMap-holds, upTo, upTo-holds, length-upTo}
 
 same-role : (ρ σ : Role) → sameRole ρ σ ≡ true → ρ ≡ σ
@@ -47,23 +48,23 @@ in-occurs ρ (List·Memᴰ·tail {x = σ} i) = later (sameRole ρ σ) (in-occurs
     later false e = e
 
 -- a role stays in a list to which one is added unless it occurs, and the added one is in it
-unless-keeps : (b : Bool) (ρ σ : Role) (ρs : List Role) → σ ∈ ρs → σ ∈ unless b ρ ρs
-unless-keeps true ρ σ ρs i = i
-unless-keeps false ρ σ ρs i = List·Memᴰ·tail i
+added-keeps : (b : Bool) (ρ σ : Role) (ρs : List Role) → σ ∈ ρs → σ ∈ addedUnless b ρ ρs
+added-keeps true ρ σ ρs i = i
+added-keeps false ρ σ ρs i = List·Memᴰ·tail i
 
-unless-adds : (ρ : Role) (ρs : List Role) → ρ ∈ unless (occurs ρ ρs) ρ ρs
-unless-adds ρ ρs = added (occurs ρ ρs) (occurs-in ρ ρs)
+added-holds : (ρ : Role) (ρs : List Role) → ρ ∈ addedUnless (occurs ρ ρs) ρ ρs
+added-holds ρ ρs = added (occurs ρ ρs) (occurs-in ρ ρs)
   where
-    added : (b : Bool) → (b ≡ true → ρ ∈ ρs) → ρ ∈ unless b ρ ρs
+    added : (b : Bool) → (b ≡ true → ρ ∈ ρs) → ρ ∈ addedUnless b ρ ρs
     added true i = i refl
     added false i = List·Memᴰ·head refl
 
 -- the head of each credential is a distinct head
 pub head-distinct : (cs : List Credential) (c : Credential) → c ∈ cs → head c ∈ distinctHeads cs
 unfolding distinctHeads
-head-distinct (k ∷ cs) c (List·Memᴰ·head e) = rw e (unless-adds (head k) (distinctHeads cs))
+head-distinct (k ∷ cs) c (List·Memᴰ·head e) = rw e (added-holds (head k) (distinctHeads cs))
 head-distinct (k ∷ cs) c (List·Memᴰ·tail i) =
-    unless-keeps (occurs (head k) (distinctHeads cs)) (head k) (head c) (distinctHeads cs) (head-distinct cs c i)
+    added-keeps (occurs (head k) (distinctHeads cs)) (head k) (head c) (distinctHeads cs) (head-distinct cs c i)
 
 -- and every distinct head is the head of a credential of the list
 pub distinct-head : (cs : List Credential) (ρ : Role) → ρ ∈ distinctHeads cs → (c : Credential) × (c ∈ cs) × (head c ≡ ρ)
@@ -71,7 +72,7 @@ unfolding distinctHeads
 distinct-head [] ρ i = absurd (List·Memᴰ·not-nil i)
 distinct-head (k ∷ cs) ρ i = found (occurs (head k) (distinctHeads cs)) (distinct-head cs ρ) i
   where
-    found : (b : Bool) → (ρ ∈ distinctHeads cs → (c : Credential) × (c ∈ cs) × (head c ≡ ρ)) → ρ ∈ unless b (head k) (distinctHeads cs)
+    found : (b : Bool) → (ρ ∈ distinctHeads cs → (c : Credential) × (c ∈ cs) × (head c ≡ ρ)) → ρ ∈ addedUnless b (head k) (distinctHeads cs)
         → (c : Credential) × (c ∈ k ∷ cs) × (head c ≡ ρ)
     found true later j = let (c, m, e) = later j in (c, List·Memᴰ·tail m, e)
     found false later (List·Memᴰ·head e) = (k, List·Memᴰ·head refl, cc)
@@ -94,19 +95,28 @@ unfolding distinctHeads
 heads-once [] m n ρ e f = absurd (List·Memᴰ·not-nil (item-occurs [] m ρ e))
 heads-once (c ∷ cs) m n ρ e f = added (occurs (head c) (distinctHeads cs)) (in-occurs (head c)) (heads-once cs) m n ρ e f
   where
-    added : (b : Bool) → (head c ∈ distinctHeads cs → b ≡ true) → Once (distinctHeads cs) → Once (unless b (head c) (distinctHeads cs))
+    added : (b : Bool) → (head c ∈ distinctHeads cs → b ≡ true) → Once (distinctHeads cs) → Once (addedUnless b (head c) (distinctHeads cs))
     added true there once = once
     added false there once = once-cons (head c) (distinctHeads cs) (λ i. false≢true (there i)) once
 
--- there are at most as many distinct heads as credentials
-pub heads-few : (cs : List Credential) → length (distinctHeads cs) ≤ length cs
-unfolding distinctHeads
-heads-few [] = omega arith
-heads-few (c ∷ cs) = few (occurs (head c) (distinctHeads cs)) (heads-few cs)
+-- there are at most as many distinct heads as numbers in a book of the credentials: each head has the number of a credential of its own
+pub heads-few : {book : Book} {cs : List Credential} {most : ℕ} → Numbers book cs most → length (distinctHeads cs) ≤ most
+heads-few {book} {cs} {most} numbers = rw length-upTo at (pigeonhole Named once (length (distinctHeads cs)) (upTo most) named)
   where
-    few : (b : Bool) → length (distinctHeads cs) ≤ length cs → length (unless b (head c) (distinctHeads cs)) ≤ suc (length cs)
-    few true h = omega arith
-    few false h = omega arith
+    -- number c names a credential whose head is distinct head m, counted from 0
+    Named : ℕ → ℕ → Type 0
+    Named m c = (k : Credential) × (book c ≡ some k) × (getElem? (distinctHeads cs) m ≡ some (head k))
+
+    once : (m n c : ℕ) → Named m c → Named n c → m ≡ n
+    once m n c (k, e, i) (l, f, j) = let same : k ≡ l = cc in heads-once cs m n (head k) i (rw same j)
+
+    named : (m : ℕ) → m < length (distinctHeads cs) → (c : ℕ) × Named m c × (c ∈ upTo most)
+    named m h =
+        let (ρ, i) = item-there (distinctHeads cs) m h in
+        let (k, there, same) = distinct-head cs ρ (item-occurs (distinctHeads cs) m ρ i) in
+        let (c, e) = numbers .every k there in
+        let inside = numbers .within c k e in
+        (c, (k, e, rw same i), upTo-holds most c (inside .0) (inside .1))
 
 -- the facts with members 1 to E and a role of the list
 pub facts-over : ℕ → List Role → List Fact

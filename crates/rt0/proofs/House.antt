@@ -8,7 +8,7 @@ use Rattle.rt0.specs.Credential.{_∈_}
 use Rattle.rt0.specs.Word.{linkWord, meetWord, giveWord, useWord, useWords, roundWords, noneWords, openWords}
 use Rattle.rt0.specs.Completion.{Open, openBy, Verdict, YES, NO, UNSURE, Answers}
 use Rattle.rt0.specs.Table.{Rounds}
-use Rattle.rt0.specs.House.{Case, Right, cases, shelves}
+use Rattle.rt0.specs.House.{Case, RightCase, cases, shelves}
 use Rattle.rt0.proofs.Tests.{both-true, every, every-true, sameWords}
 use Rattle.rt0.proofs.Settle.{settleWords}
 use Rattle.rt0.proofs.Decide.{fromOneTo, validRole, valid, entity-from, role-from, all-valid-from, Answer, answerWords, answer-words}
@@ -67,7 +67,7 @@ computed-right k h =
 passes : Case → Bool
 passes k = let a = answer k in sound k && (sameVerdict (a .verdict) (k .verdict) && eqb (a .rounds) (k .rounds))
 
-pass-right : (k : Case) → passes k ≡ true → Right k
+pass-right : (k : Case) → passes k ≡ true → RightCase k
 unfolding passes
 pass-right k h =
     let same-answer = sameVerdict (answer k .verdict) (k .verdict) in
@@ -85,5 +85,5 @@ unfolding passes sound answer every cases shelves answerWords settleWords sameWo
 all-pass = refl
 
 -- every case is right
-pub cases-right : (k : Case) → k ∈ cases → Right k
+pub cases-right : (k : Case) → k ∈ cases → RightCase k
 cases-right k i = pass-right k (every-true passes cases all-pass k i)

@@ -1,7 +1,8 @@
 -- The theorems of RT0, a file for each idea. Those that answer a demand of the paper:
 -- Least: membership is closed, and least. Tables: it is what the tables hold at the number of rounds, which is unique.
 -- Possible: what completions can add, and the three words. Settle: the number of rounds exists and is bounded, and one word answers.
--- Slips: sound, lasting, complete and short. SlipBytes: a slip is read back from its bytes. Bounds: the paper's numbers.
+-- Slips: sound, lasting, complete and short. SlipBytes: a slip is read back from its bytes. Books: the book of a list.
+-- Bounds: the paper's numbers.
 -- House: the cases P1 to P10. Shown and Grown tie the words of Word to tables and to possible members; Decide computes the answer.
 -- The others (Items, Lists, Heads, Says, Bits, Words, Count, Rounding, Tests) hold what these need.
 pub mod Least
@@ -13,6 +14,7 @@ pub mod Heads
 pub mod Says
 pub mod Slips
 pub mod SlipBytes
+pub mod Books
 pub mod Bits
 pub mod Words
 pub mod Shown

@@ -1,5 +1,5 @@
 -- The bytes of a slip and its lines: reading back what was written gives the lines, where every number fits its bytes.
-use Prim.Native.Nat.{ℕ, zero, suc, _+_, _*_, _/_, _%_, _≤_, _<_}
+use Prim.Native.Nat.{ℕ, zero, suc, _+_, _*_, _≤_, _<_}
 use native.Mathlib.Nat.{add-assoc}
 use native.Mathlib.Decide.{ℕ-discrete}
 use native.Mathlib.Omega.{arith}
@@ -10,10 +10,11 @@ use mathlib.Core.List.{List, [], _∷_, _++_, append-assoc, List·Memᴰ·head, 
 use lib.ListN.{length, take, getD, getElem?, length-append, length-take}
 use lib.Seq.{take-append-le, take-all, getD-append-add}
 use Rattle.rt0.specs.Credential.{Credential, head, AllValid, _∈_}
+use Rattle.rt0.specs.Book.{Book, Numbers}
 use Rattle.rt0.specs.Slip.{Line, line, RightSlip}
-use Rattle.rt0.specs.Bytes.{linesOf, bytesOf, bytesOfLine, lineFrom}
+use Rattle.rt0.specs.Bytes.{number, linesOf, bytesOf, bytesOfLine, lineFrom}
 use Rattle.rt0.proofs.Items.{occurs-item, item-append, item-last}
-use Rattle.rt0.proofs.Says.{credential-within, follows-within}
+use Rattle.rt0.proofs.Says.{follows-within}
 use Rattle.rt0.proofs.Slips.{line-says, line-entity}
 
 pub length-linesOf : (bytes : List ℕ) (n : ℕ) → length (linesOf bytes n) ≡ n
@@ -55,9 +56,9 @@ length-bytesOf (line D c p q s ∷ lines) = let h = length-bytesOf lines in omeg
 -- the line whose bytes stand first
 line-first : (l : Line) (bytes : List ℕ) → lineFrom (bytesOfLine l ++ bytes) 0 ≡ l
 line-first (line D c p q s) bytes =
-    let first : p % 256 + 256 * (p / 256) ≡ p = omega arith in
-    let second : q % 256 + 256 * (q / 256) ≡ q = omega arith in
-    let third : s % 256 + 256 * (s / 256) ≡ s = omega arith in
+    let first : number (bytesOfLine (line D c p q s) ++ bytes) 2 ≡ p = omega arith in
+    let second : number (bytesOfLine (line D c p q s) ++ bytes) 4 ≡ q = omega arith in
+    let third : number (bytesOfLine (line D c p q s) ++ bytes) 6 ≡ s = omega arith in
     rw (first, second, third)
 
 -- behind a line's eight bytes stands what would stand without them
@@ -100,18 +101,18 @@ small-bytes (l ∷ lines) h b i =
     ⊎-elim (small-byte (bytesOfLine l) (h l (List·Memᴰ·head refl)) b) (small-bytes lines (λ x j. h x (List·Memᴰ·tail j)) b)
     (List·Memᴰ·append-cases (bytesOfLine l) i)
 
--- every byte of a right slip of at most 65,535 lines over at most 255 credentials and entities is a byte
-pub bytesOf-small : (E R : ℕ) (cs : List Credential) → E ≤ 255 → length cs ≤ 255 → AllValid E R cs
-    → (lines : List Line) → RightSlip cs lines → length lines ≤ 65535 → (b : ℕ) → b ∈ bytesOf lines → b < 256
-bytesOf-small E R cs e c v lines h l = small-bytes lines (λ x i. let n = occurs-item i in small (n .0) x (n .1))
+-- every byte of a right slip of at most 65,535 lines over at most 255 entities and a book with numbers up to 255 is a byte
+pub bytesOf-small : (E R : ℕ) (cs : List Credential) → AllValid E R cs → (book : Book) (most : ℕ) → Numbers book cs most
+    → E ≤ 255 → most ≤ 255 → (lines : List Line) → RightSlip book lines → length lines ≤ 65535 → (b : ℕ) → b ∈ bytesOf lines → b < 256
+bytesOf-small E R cs v book most numbers e c lines h l = small-bytes lines (λ x i. let n = occurs-item i in small (n .0) x (n .1))
   where
     small : (n : ℕ) (x : Line) → getElem? lines n ≡ some x → AllSmall (bytesOfLine x)
     small n (line D k p q s) i =
-        let said = line-says cs lines h n D k p q s i in
-        let member = line-entity E R cs v lines h (suc n) (head (said .0)) D (said .2) in
-        let credential : k ≤ length cs = credential-within cs k (said .0) (said .1) in
+        let said = line-says book lines h n D k p q s i in
+        let member = line-entity E R cs v book (numbers .only) lines h (suc n) (head (said .0)) D (said .2) in
+        let credential = numbers .within k (said .0) (said .1) in
         let right = h n (line D k p q s) i in
-        let premise = follows-within cs (take n lines) (right .0) D p q s (right .2) in
+        let premise = follows-within book (take n lines) (right .0) D p q s (right .2) in
         let first : p ≤ length (take n lines) = premise p (List·Memᴰ·head refl) in
         let second : q ≤ length (take n lines) = premise q (List·Memᴰ·tail (List·Memᴰ·head refl)) in
         let third : s ≤ length (take n lines) = premise s (List·Memᴰ·tail (List·Memᴰ·tail (List·Memᴰ·head refl))) in

@@ -1,5 +1,6 @@
--- Slips. Sound: what a right slip states is a membership. Lasting: a right slip stays right when credentials are appended after
--- the last. Complete: for every member there is a right slip that states no fact twice, which bounds its length.
+-- Slips, over a book. Sound: what a right slip states is a membership over any list that has all that the book names. Lasting: a right
+-- slip stays right over a book that keeps what the first names. Complete: for every member over a list whose credentials the book numbers
+-- there is a right slip that states no fact twice, which bounds its length.
 use Prim.Native.Nat.{ℕ, zero, suc, _*_, _≤_, _<_}
 use native.Mathlib.Omega.{arith}
 use native.Mathlib.Decide.{ℕ-discrete}
@@ -12,112 +13,116 @@ use lib.Seq.{take-append-le, take-take, take-append-seam, length-take-le}
 use Rattle.rt0.specs.Credential.{Role, _·_, entity, role, link, intersection, Credential, _⟵_, head, _∈_, IsEntity, AllValid}
 use Rattle.rt0.specs.Membership.{Assignment, Closed, Member}
 use Rattle.rt0.specs.Table.{distinctHeads}
-use Rattle.rt0.specs.Slip.{item, Line, line, Fact, _∋_, stated, Says, AllNone, InTurn, Follows}
+use Rattle.rt0.specs.Book.{Book, NamesOnly, Numbers, Keeps}
+use Rattle.rt0.specs.Slip.{Line, line, Fact, _∋_, stated, Says, AllNone, InTurn, Follows}
 use Rattle.rt0.specs.Slip.{RightLine, RightSlip, SlipFor, NoFactTwice}
 use Rattle.rt0.proofs.Least.{member-closed, member-least, member-within}
-use Rattle.rt0.proofs.Items.{item-within, occurs-item, item-there, item-last, item-take, item-cases, pigeonhole}
+use Rattle.rt0.proofs.Items.{item-within, item-there, item-last, item-take, item-cases, pigeonhole}
 use Rattle.rt0.proofs.Heads.{head-distinct, facts-over, length-facts-over, fact-over}
-use Rattle.rt0.proofs.Says.{credential-occurs, credential-stays, credential-behind, line-behind, follows-more, follows-gives}
+use Rattle.rt0.proofs.Says.{credential-behind, line-behind, follows-more, follows-gives}
 use Rattle.rt0.proofs.Says.{says-within, says-longer, says-first, first-says, says-lasts, says-cases}
 
 -- ---- sound
 
--- every line with a number up to n says a membership
-abbrev SoundTo : List Credential → List Line → ℕ → Type 0
-SoundTo cs lines n = (m : ℕ) → m ≤ n → (ρ : Role) (D : ℕ) → Says cs lines m (ρ ∋ D) → Member cs ρ D
+module _ (book : Book) (cs : List Credential) (only : NamesOnly book cs) (lines : List Line) (right : RightSlip book lines) where
+  -- every line with a number up to n says a membership
+  abbrev SoundTo : ℕ → Type 0
+  SoundTo n = (m : ℕ) → m ≤ n → (ρ : Role) (D : ℕ) → Says book lines m (ρ ∋ D) → Member cs ρ D
 
-module _ (cs : List Credential) (lines : List Line) (right : RightSlip cs lines) where
   -- the premises of line n + 1 are among the first n lines
-  earlier-sound : (n : ℕ) → SoundTo cs lines n → (m : ℕ) (ρ : Role) (D : ℕ) → Says cs (take n lines) m (ρ ∋ D) → Member cs ρ D
+  earlier-sound : (n : ℕ) → SoundTo n → (m : ℕ) (ρ : Role) (D : ℕ) → Says book (take n lines) m (ρ ∋ D) → Member cs ρ D
   earlier-sound n before m ρ D s =
-      let inside = says-within cs (take n lines) m (ρ ∋ D) s in
-      before m (omega (arith, length-take n lines)) ρ D (first-says cs lines n m (ρ ∋ D) s)
+      let inside = says-within book (take n lines) m (ρ ∋ D) s in
+      before m (omega (arith, length-take n lines)) ρ D (first-says book lines n m (ρ ∋ D) s)
 
   -- line n + 1, from those before it
-  next-sound : (n : ℕ) → SoundTo cs lines n → (ρ : Role) (D : ℕ) → Says cs lines (suc n) (ρ ∋ D) → Member cs ρ D
-  next-sound n before ρ D s = let l = line-behind cs lines n (ρ ∋ D) s in proved (l .0) (l .1) (l .2)
+  next-sound : (n : ℕ) → SoundTo n → (ρ : Role) (D : ℕ) → Says book lines (suc n) (ρ ∋ D) → Member cs ρ D
+  next-sound n before ρ D s = let l = line-behind book lines n (ρ ∋ D) s in proved (l .0) (l .1) (l .2)
     where
-      proved : (l : Line) → getElem? lines n ≡ some l → stated cs (some l) ≡ some (ρ ∋ D) → Member cs ρ D
+      proved : (l : Line) → getElem? lines n ≡ some l → stated book (some l) ≡ some (ρ ∋ D) → Member cs ρ D
       proved (line X c p q t) e f =
           let r = right n (line X c p q t) e in
-          let k = credential-behind X (item cs c) (ρ ∋ D) f in
-          let given = follows-gives cs (take n lines) (Member cs) (earlier-sound n before) (r .0) X p q t (r .2) in
+          let k = credential-behind X (book c) (ρ ∋ D) f in
+          let given = follows-gives book (take n lines) (Member cs) (earlier-sound n before) (r .0) X p q t (r .2) in
           let its-role : head (r .0) ≡ ρ = cc in
           let its-member : X ≡ D = cc in
-          rw (← its-role, ← its-member) (member-closed cs (r .0) (credential-occurs cs c (r .0) (r .1)) X given)
+          rw (← its-role, ← its-member) (member-closed cs (r .0) (only c (r .0) (r .1)) X given)
 
-  sound-to : (n : ℕ) → SoundTo cs lines n
-  sound-to zero m le ρ D s = let inside = says-within cs lines m (ρ ∋ D) s in absurd (omega arith)
+  sound-to : (n : ℕ) → SoundTo n
+  sound-to zero m le ρ D s = let inside = says-within book lines m (ρ ∋ D) s in absurd (omega arith)
   sound-to (suc n) zero le ρ D s = absurd (Option·none-ne-some (ρ ∋ D) s)
   sound-to (suc n) (suc m) le ρ D s = next-sound m (λ i h. sound-to n i (omega arith)) ρ D s
 
--- sound, for every line
-pub line-sound : (cs : List Credential) (lines : List Line) → RightSlip cs lines
-    → (n : ℕ) (ρ : Role) (D : ℕ) → Says cs lines n (ρ ∋ D) → Member cs ρ D
-line-sound cs lines h n = sound-to cs lines h n n (omega arith)
+-- sound, for every line, over a book that names only credentials of the list
+pub line-sound : (book : Book) (cs : List Credential) → NamesOnly book cs → (lines : List Line) → RightSlip book lines
+    → (n : ℕ) (ρ : Role) (D : ℕ) → Says book lines n (ρ ∋ D) → Member cs ρ D
+line-sound book cs only lines h n = sound-to book cs only lines h n n (omega arith)
 
-pub slip-sound : (cs : List Credential) (lines : List Line) (ρ : Role) (D : ℕ) → SlipFor cs ρ D lines → Member cs ρ D
-slip-sound cs lines ρ D h = line-sound cs lines (h .right) (length lines) ρ D (h .last)
+pub slip-sound : (book : Book) (cs : List Credential) → NamesOnly book cs → (lines : List Line) (ρ : Role) (D : ℕ)
+    → SlipFor book ρ D lines → Member cs ρ D
+slip-sound book cs only lines ρ D h = line-sound book cs only lines (h .right) (length lines) ρ D (h .last)
 
 -- ---- lasting
 
-right-lasts : (cs ds : List Credential) (lines : List Line) → RightSlip cs lines → RightSlip (cs ++ ds) lines
-right-lasts cs ds lines h n (line D c p q s) e =
+right-lasts : (book more : Book) → Keeps book more → (lines : List Line) → RightSlip book lines → RightSlip more lines
+right-lasts book more keeps lines h n (line D c p q s) e =
     let r = h n (line D c p q s) e in (
       r .0,
-      credential-stays cs ds c (r .0) (r .1),
-      follows-more cs (cs ++ ds) (take n lines) (take n lines) (says-lasts cs ds (take n lines)) (r .0) D p q s (r .2),
+      keeps c (r .0) (r .1),
+      follows-more book more (take n lines) (take n lines) (says-lasts book more keeps (take n lines)) (r .0) D p q s (r .2),
     )
 
-pub slip-lasts : (cs ds : List Credential) (lines : List Line) (ρ : Role) (D : ℕ) → SlipFor cs ρ D lines → SlipFor (cs ++ ds) ρ D lines
-slip-lasts cs ds lines ρ D h =
-    record { right = right-lasts cs ds lines (h .right); last = says-lasts cs ds lines (length lines) (ρ ∋ D) (h .last) }
+-- over a book that keeps what the first names
+pub slip-lasts : (book more : Book) → Keeps book more → (lines : List Line) (ρ : Role) (D : ℕ)
+    → SlipFor book ρ D lines → SlipFor more ρ D lines
+slip-lasts book more keeps lines ρ D h =
+    record { right = right-lasts book more keeps lines (h .right); last = says-lasts book more keeps lines (length lines) (ρ ∋ D) (h .last) }
 
 -- ---- complete
 
 -- some line, or no line, says the fact
-abbrev Said : List Credential → List Line → Fact → Type 0
-Said cs lines f = (n : ℕ) × Says cs lines n f
+abbrev Said : Book → List Line → Fact → Type 0
+Said book lines f = (n : ℕ) × Says book lines n f
 
-abbrev Unsaid : List Credential → List Line → Fact → Type 0
-Unsaid cs lines f = (n : ℕ) → Says cs lines n f → ⊥
+abbrev Unsaid : Book → List Line → Fact → Type 0
+Unsaid book lines f = (n : ℕ) → Says book lines n f → ⊥
 
 -- a right slip that states no fact twice
-record Terse (cs : List Credential) (lines : List Line) : Type 0 where
-  right : RightSlip cs lines
-  once : NoFactTwice cs lines
+record Terse (book : Book) (lines : List Line) : Type 0 where
+  right : RightSlip book lines
+  once : NoFactTwice book lines
 
 -- such a slip that says all that the given lines say, by the same numbers, and of which P holds
-record Extension (cs : List Credential) (given : List Line) (P : List Line → Type 0) : Type 0 where
+record Extension (book : Book) (given : List Line) (P : List Line → Type 0) : Type 0 where
   lines : List Line
-  terse : Terse cs lines
-  keeps : (n : ℕ) (f : Fact) → Says cs given n f → Says cs lines n f
+  terse : Terse book lines
+  keeps : (n : ℕ) (f : Fact) → Says book given n f → Says book lines n f
   reached : P lines
 
 -- every such slip can be extended to say that D is in ρ
-abbrev Sayable : List Credential → Assignment
-Sayable cs ρ D = (given : List Line) → Terse cs given → Extension cs given (λ lines. Said cs lines (ρ ∋ D))
+abbrev Sayable : Book → Assignment
+Sayable book ρ D = (given : List Line) → Terse book given → Extension book given (λ lines. Said book lines (ρ ∋ D))
 
 -- an extension of an extension
-further : {cs : List Credential} {given : List Line} {P Q : List Line → Type 0} (e : Extension cs given P)
-    → Extension cs (e .lines) Q → Extension cs given Q
+further : {book : Book} {given : List Line} {P Q : List Line → Type 0} (e : Extension book given P)
+    → Extension book (e .lines) Q → Extension book given Q
 further e f = record { lines = f .lines; terse = f .terse; keeps = λ n g s. f .keeps n g (e .keeps n g s); reached = f .reached }
 
 -- the empty slip
-terse-nil : (cs : List Credential) → Terse cs []
-terse-nil cs = record { right = λ n l e. absurd (Option·none-ne-some l e); once = none-twice }
+terse-nil : (book : Book) → Terse book []
+terse-nil book = record { right = λ n l e. absurd (Option·none-ne-some l e); once = none-twice }
   where
-    none-twice : NoFactTwice cs []
-    none-twice m n f s t = let inside = says-within cs [] m f s in omega arith
+    none-twice : NoFactTwice book []
+    none-twice m n f s t = let inside = says-within book [] m f s in omega arith
 
 -- a prefix
-terse-take : (cs : List Credential) (lines : List Line) (n : ℕ) → Terse cs lines → Terse cs (take n lines)
-terse-take cs lines n t = record { right = right-take; once = once-take }
+terse-take : (book : Book) (lines : List Line) (n : ℕ) → Terse book lines → Terse book (take n lines)
+terse-take book lines n t = record { right = right-take; once = once-take }
   where
-    once-take : NoFactTwice cs (take n lines)
-    once-take i j f s u = t .once i j f (first-says cs lines n i f s) (first-says cs lines n j f u)
+    once-take : NoFactTwice book (take n lines)
+    once-take i j f s u = t .once i j f (first-says book lines n i f s) (first-says book lines n j f u)
 
-    right-take : RightSlip cs (take n lines)
+    right-take : RightSlip book (take n lines)
     right-take m l e =
         let inside : m < length (take n lines) = item-within (take n lines) m l e in
         let below : m < n = omega (arith, length-take n lines) in
@@ -125,29 +130,29 @@ terse-take cs lines n t = record { right = right-take; once = once-take }
         rw take-take (t .right m l (rw item-take at e))
 
 -- one more right line
-pub right-snoc : (cs : List Credential) (lines : List Line) (l : Line) → RightSlip cs lines → RightLine cs lines l
-    → RightSlip cs (lines ++ (l ∷ []))
-right-snoc cs lines l h r n x i = ⊎-elim old last (item-cases lines l n x i)
+pub right-snoc : (book : Book) (lines : List Line) (l : Line) → RightSlip book lines → RightLine book lines l
+    → RightSlip book (lines ++ (l ∷ []))
+right-snoc book lines l h r n x i = ⊎-elim old last (item-cases lines l n x i)
   where
-    old : getElem? lines n ≡ some x → RightLine cs (take n (lines ++ (l ∷ []))) x
+    old : getElem? lines n ≡ some x → RightLine book (take n (lines ++ (l ∷ []))) x
     old j =
         let inside : n < length lines = item-within lines n x j in
         let below : n ≤ length lines = omega arith in
         rw take-append-le (h n x j)
 
-    last : (n ≡ length lines) × (l ≡ x) → RightLine cs (take n (lines ++ (l ∷ []))) x
+    last : (n ≡ length lines) × (l ≡ x) → RightLine book (take n (lines ++ (l ∷ []))) x
     last j = rw (j .0, ← j .1, take-append-seam) r
 
 -- one more line, which states a new fact
-terse-snoc : (cs : List Credential) (lines : List Line) (l : Line) (f : Fact) → Terse cs lines → RightLine cs lines l
-    → stated cs (some l) ≡ some f → Unsaid cs lines f → Terse cs (lines ++ (l ∷ []))
-terse-snoc cs lines l f t r e new = record { right = right-snoc cs lines l (t .right) r; once = once-snoc }
+terse-snoc : (book : Book) (lines : List Line) (l : Line) (f : Fact) → Terse book lines → RightLine book lines l
+    → stated book (some l) ≡ some f → Unsaid book lines f → Terse book (lines ++ (l ∷ []))
+terse-snoc book lines l f t r e new = record { right = right-snoc book lines l (t .right) r; once = once-snoc }
   where
-    once-snoc : NoFactTwice cs (lines ++ (l ∷ []))
-    once-snoc m n g s u = compared (says-cases cs lines l m g s) (says-cases cs lines l n g u)
+    once-snoc : NoFactTwice book (lines ++ (l ∷ []))
+    once-snoc m n g s u = compared (says-cases book lines l m g s) (says-cases book lines l n g u)
       where
         Found : ℕ → Type 0
-        Found i = Says cs lines i g ⊎ ((i ≡ suc (length lines)) × (stated cs (some l) ≡ some g))
+        Found i = Says book lines i g ⊎ ((i ≡ suc (length lines)) × (stated book (some l) ≡ some g))
 
         compared : Found m → Found n → m ≡ n
         compared (inl a) (inl b) = t .once m n g a b
@@ -166,59 +171,56 @@ same-fact (A · r ∋ D) (B · s ∋ X) = joined (ℕ-discrete A B) (ℕ-discret
     joined (yes a) (yes b) (no c) = no (λ e. c (cc))
 
 -- whether the lines say a fact, and where
-search-fact : (cs : List Credential) (lines : List Line) (f : Fact) → Said cs lines f ⊎ Unsaid cs lines f
-search-fact cs [] f = inr (λ n s. let inside = says-within cs [] n f s in omega arith)
-search-fact cs (l ∷ lines) f = looked (discrete same-fact (stated cs (some l)) (some f)) (search-fact cs lines f)
+search-fact : (book : Book) (lines : List Line) (f : Fact) → Said book lines f ⊎ Unsaid book lines f
+search-fact book [] f = inr (λ n s. let inside = says-within book [] n f s in omega arith)
+search-fact book (l ∷ lines) f = looked (discrete same-fact (stated book (some l)) (some f)) (search-fact book lines f)
   where
-    raised : Said cs lines f → Said cs (l ∷ lines) f
+    raised : Said book lines f → Said book (l ∷ lines) f
     raised (zero, s) = absurd (Option·none-ne-some f s)
     raised (suc m, s) = (suc (suc m), s)
 
-    neither : (stated cs (some l) ≡ some f → ⊥) → Unsaid cs lines f → Unsaid cs (l ∷ lines) f
+    neither : (stated book (some l) ≡ some f → ⊥) → Unsaid book lines f → Unsaid book (l ∷ lines) f
     neither here there zero s = Option·none-ne-some f s
     neither here there (suc zero) s = here s
     neither here there (suc (suc m)) s = there (suc m) s
 
-    looked : Dec (stated cs (some l) ≡ some f) → Said cs lines f ⊎ Unsaid cs lines f → Said cs (l ∷ lines) f ⊎ Unsaid cs (l ∷ lines) f
+    looked : Dec (stated book (some l) ≡ some f) → Said book lines f ⊎ Unsaid book lines f → Said book (l ∷ lines) f ⊎ Unsaid book (l ∷ lines) f
     looked (yes e) there = inl (1, e)
     looked (no here) (inl there) = inl (raised there)
     looked (no here) (inr there) = inr (neither here there)
 
 -- what follows can be said: by a line that says it already, or by one more
-say : (cs : List Credential) (given : List Line) → Terse cs given → (k : Credential) → k ∈ cs → (D p q s : ℕ) → Follows cs given k D p q s
-    → Extension cs given (λ lines. Said cs lines (head k ∋ D))
-say cs given t k i D p q s w = ⊎-elim old new (search-fact cs given (head k ∋ D))
+say : (book : Book) (given : List Line) → Terse book given → (k : Credential) (c : ℕ) → book c ≡ some k
+    → (D p q s : ℕ) → Follows book given k D p q s → Extension book given (λ lines. Said book lines (head k ∋ D))
+say book given t k c i D p q s w = ⊎-elim old new (search-fact book given (head k ∋ D))
   where
-    number : (c : ℕ) × (item cs c ≡ some k)
-    number = let n = occurs-item i in (suc (n .0), n .1)
-
-    old : Said cs given (head k ∋ D) → Extension cs given (λ lines. Said cs lines (head k ∋ D))
+    old : Said book given (head k ∋ D) → Extension book given (λ lines. Said book lines (head k ∋ D))
     old there = record { lines = given; terse = t; keeps = λ n f u. u; reached = there }
 
-    new : Unsaid cs given (head k ∋ D) → Extension cs given (λ lines. Said cs lines (head k ∋ D))
+    new : Unsaid book given (head k ∋ D) → Extension book given (λ lines. Said book lines (head k ∋ D))
     new absent =
-        let l : Line = line D (number .0) p q s in
-        let e : stated cs (some l) ≡ some (head k ∋ D) = rw (number .1) in
+        let l : Line = line D c p q s in
+        let e : stated book (some l) ≡ some (head k ∋ D) = rw i in
         record {
           lines = given ++ (l ∷ []);
-          terse = terse-snoc cs given l (head k ∋ D) t (k, number .1, w) e absent;
-          keeps = says-longer cs given (l ∷ []);
+          terse = terse-snoc book given l (head k ∋ D) t (k, i, w) e absent;
+          keeps = says-longer book given (l ∷ []);
           reached = (suc (length given), rw item-last e);
         }
 
 -- premises for the parts of an intersection in turn, padded with 0 to n numbers
-in-turn : (cs : List Credential) (D n : ℕ) (parts : List Role) → length parts ≤ n → ((ρ : Role) → ρ ∈ parts → Sayable cs ρ D)
-    → (given : List Line) → Terse cs given → Extension cs given (λ lines. (ps : List ℕ) × (length ps ≡ n) × InTurn cs lines D parts ps)
-in-turn cs D n [] h say-part given t =
+in-turn : (book : Book) (D n : ℕ) (parts : List Role) → length parts ≤ n → ((ρ : Role) → ρ ∈ parts → Sayable book ρ D)
+    → (given : List Line) → Terse book given → Extension book given (λ lines. (ps : List ℕ) × (length ps ≡ n) × InTurn book lines D parts ps)
+in-turn book D n [] h say-part given t =
     record { lines = given; terse = t; keeps = λ n f u. u; reached = (replicate n 0, length-replicate n 0, all-none n) }
   where
     all-none : (n : ℕ) → AllNone (replicate n 0)
     all-none zero = tt
     all-none (suc n) = (refl, all-none n)
-in-turn cs D zero (ρ ∷ ρs) h say-part given t = absurd (omega arith)
-in-turn cs D (suc n) (ρ ∷ ρs) h say-part given t =
+in-turn book D zero (ρ ∷ ρs) h say-part given t = absurd (omega arith)
+in-turn book D (suc n) (ρ ∷ ρs) h say-part given t =
     let first = say-part ρ (List·Memᴰ·head refl) given t in
-    let rest = in-turn cs D n ρs (omega arith) (λ σ i. say-part σ (List·Memᴰ·tail i)) (first .lines) (first .terse) in
+    let rest = in-turn book D n ρs (omega arith) (λ σ i. say-part σ (List·Memᴰ·tail i)) (first .lines) (first .terse) in
     let said = rest .keeps (first .reached .0) (ρ ∋ D) (first .reached .1) in
     further first (record {
       lines = rest .lines;
@@ -236,65 +238,69 @@ three (p ∷ q ∷ s ∷ []) e = (p, q, s, refl)
 three (p ∷ q ∷ s ∷ r ∷ ps) e = absurd (omega arith)
 
 -- what can be said is closed: first the premises are said, then what follows from them
-sayable-closed : (E R : ℕ) (cs : List Credential) → AllValid E R cs → Closed cs (Sayable cs)
-sayable-closed E R cs v (A · r ⟵ entity B) i D g given t = say cs given t (A · r ⟵ entity B) i D 0 0 0 (g, (refl, (refl, (refl, tt))))
-sayable-closed E R cs v (A · r ⟵ role ρ) i D g given t =
-    let e = g given t in
-    further e (say cs (e .lines) (e .terse) (A · r ⟵ role ρ) i D (e .reached .0) 0 0 (e .reached .1, (refl, (refl, tt))))
-sayable-closed E R cs v (A · r ⟵ link r1 r2) i D g given t =
-    let e = g .1 given t in
-    let f = g .2 (e .lines) (e .terse) in
-    let said = f .keeps (e .reached .0) (A · r1 ∋ g .0) (e .reached .1) in
-    let w : Follows cs (f .lines) (A · r ⟵ link r1 r2) D (e .reached .0) (f .reached .0) 0 = (g .0, said, f .reached .1, (refl, tt)) in
-    further e (further f (say cs (f .lines) (f .terse) (A · r ⟵ link r1 r2) i D (e .reached .0) (f .reached .0) 0 w))
-sayable-closed E R cs v (A · r ⟵ intersection parts) i D g given t =
-    let e = in-turn cs D 3 parts (v (A · r ⟵ intersection parts) i .1 .1) g given t in
-    let n = three (e .reached .0) (e .reached .1) in
-    further e (say cs (e .lines) (e .terse) (A · r ⟵ intersection parts) i D (n .0) (n .1) (n .2) (rw (n .3) at (e .reached .2)))
+module _ (E R : ℕ) (cs : List Credential) (v : AllValid E R cs) (book : Book) {most : ℕ} (numbers : Numbers book cs most) where
+  say-by : (given : List Line) → Terse book given → (k : Credential) → k ∈ cs → (D p q s : ℕ) → Follows book given k D p q s
+      → Extension book given (λ lines. Said book lines (head k ∋ D))
+  say-by given t k i = let (c, e) = numbers .every k i in say book given t k c e
 
--- for every member there is a right slip that states no fact twice: one that says it, cut off behind the line that does.
--- Valid credentials, since a line has no room for the premises of more than three parts
-pub slip-complete : (E R : ℕ) (cs : List Credential) → AllValid E R cs → (ρ : Role) (D : ℕ) → Member cs ρ D
-    → (lines : List Line) × SlipFor cs ρ D lines × NoFactTwice cs lines
-slip-complete E R cs v ρ D m =
-    let e = member-least cs (Sayable cs) (sayable-closed E R cs v) ρ D m [] (terse-nil cs) in
-    let n = e .reached .0 in
-    let t = terse-take cs (e .lines) n (e .terse) in
-    let inside = says-within cs (e .lines) n (ρ ∋ D) (e .reached .1) in
-    let last : Says cs (take n (e .lines)) n (ρ ∋ D) = says-first cs (e .lines) n n (ρ ∋ D) (omega arith) (e .reached .1) in
-    (take n (e .lines), record { right = t .right; last = rw (length-take-le n (e .lines) (inside .1)) last }, t .once)
+  sayable-closed : Closed cs (Sayable book)
+  sayable-closed (A · r ⟵ entity B) i D g given t = say-by given t (A · r ⟵ entity B) i D 0 0 0 (g, (refl, (refl, (refl, tt))))
+  sayable-closed (A · r ⟵ role ρ) i D g given t =
+      let e = g given t in
+      further e (say-by (e .lines) (e .terse) (A · r ⟵ role ρ) i D (e .reached .0) 0 0 (e .reached .1, (refl, (refl, tt))))
+  sayable-closed (A · r ⟵ link r1 r2) i D g given t =
+      let e = g .1 given t in
+      let f = g .2 (e .lines) (e .terse) in
+      let said = f .keeps (e .reached .0) (A · r1 ∋ g .0) (e .reached .1) in
+      let w : Follows book (f .lines) (A · r ⟵ link r1 r2) D (e .reached .0) (f .reached .0) 0 = (g .0, said, f .reached .1, (refl, tt)) in
+      further e (further f (say-by (f .lines) (f .terse) (A · r ⟵ link r1 r2) i D (e .reached .0) (f .reached .0) 0 w))
+  sayable-closed (A · r ⟵ intersection parts) i D g given t =
+      let e = in-turn book D 3 parts (v (A · r ⟵ intersection parts) i .1 .1) g given t in
+      let n = three (e .reached .0) (e .reached .1) in
+      further e (say-by (e .lines) (e .terse) (A · r ⟵ intersection parts) i D (n .0) (n .1) (n .2) (rw (n .3) at (e .reached .2)))
+
+  -- for every member there is a right slip that states no fact twice: one that says it, cut off behind the line that does.
+  -- Valid credentials, since a line has no room for the premises of more than three parts
+  pub slip-complete : (ρ : Role) (D : ℕ) → Member cs ρ D → (lines : List Line) × SlipFor book ρ D lines × NoFactTwice book lines
+  slip-complete ρ D m =
+      let e = member-least cs (Sayable book) sayable-closed ρ D m [] (terse-nil book) in
+      let n = e .reached .0 in
+      let t = terse-take book (e .lines) n (e .terse) in
+      let inside = says-within book (e .lines) n (ρ ∋ D) (e .reached .1) in
+      let last : Says book (take n (e .lines)) n (ρ ∋ D) = says-first book (e .lines) n n (ρ ∋ D) (omega arith) (e .reached .1) in
+      (take n (e .lines), record { right = t .right; last = rw (length-take-le n (e .lines) (inside .1)) last }, t .once)
 
 -- ---- short
 
--- what a line of a right slip says: that its member is in the head of a credential of the list
-pub line-says : (cs : List Credential) (lines : List Line) → RightSlip cs lines
+-- what a line of a right slip says: that its member is in the head of the credential that it names
+pub line-says : (book : Book) (lines : List Line) → RightSlip book lines
     → (n D c p q s : ℕ) → getElem? lines n ≡ some (line D c p q s)
-    → (k : Credential) × (item cs c ≡ some k) × Says cs lines (suc n) (head k ∋ D)
-line-says cs lines h n D c p q s e = let r = h n (line D c p q s) e in (r .0, r .1, rw (e, r .1))
+    → (k : Credential) × (book c ≡ some k) × Says book lines (suc n) (head k ∋ D)
+line-says book lines h n D c p q s e = let r = h n (line D c p q s) e in (r .0, r .1, rw (e, r .1))
 
--- the member of a line of a right slip is an entity
-pub line-entity : (E R : ℕ) (cs : List Credential) → AllValid E R cs → (lines : List Line) → RightSlip cs lines
-    → (n : ℕ) (ρ : Role) (D : ℕ) → Says cs lines n (ρ ∋ D) → IsEntity E D
-line-entity E R cs v lines h n ρ D s = member-within E R cs v ρ D (line-sound cs lines h n ρ D s) .1
+module _ (E R : ℕ) (cs : List Credential) (v : AllValid E R cs) (book : Book) (only : NamesOnly book cs)
+    (lines : List Line) (h : RightSlip book lines) where
+  -- the member of a line of a right slip is an entity
+  pub line-entity : (n : ℕ) (ρ : Role) (D : ℕ) → Says book lines n (ρ ∋ D) → IsEntity E D
+  line-entity n ρ D s = member-within E R cs v ρ D (line-sound book cs only lines h n ρ D s) .1
 
--- a right slip that states no fact twice has at most E lines for each distinct head
-pub slip-short : (E R : ℕ) (cs : List Credential) → AllValid E R cs → (lines : List Line) → RightSlip cs lines → NoFactTwice cs lines
-    → length lines ≤ E * length (distinctHeads cs)
-slip-short E R cs v lines h t =
-    rw (length-facts-over E (distinctHeads cs)) at (pigeonhole (λ n f. Says cs lines (suc n) f) once (length lines) facts said)
-  where
-    facts : List Fact
-    facts = facts-over E (distinctHeads cs)
+  -- a right slip that states no fact twice has at most E lines for each distinct head
+  pub slip-short : NoFactTwice book lines → length lines ≤ E * length (distinctHeads cs)
+  slip-short t =
+      rw (length-facts-over E (distinctHeads cs)) at (pigeonhole (λ n f. Says book lines (suc n) f) once (length lines) facts said)
+    where
+      facts : List Fact
+      facts = facts-over E (distinctHeads cs)
 
-    once : (m n : ℕ) (f : Fact) → Says cs lines (suc m) f → Says cs lines (suc n) f → m ≡ n
-    once m n f s u = let same = t (suc m) (suc n) f s u in omega arith
+      once : (m n : ℕ) (f : Fact) → Says book lines (suc m) f → Says book lines (suc n) f → m ≡ n
+      once m n f s u = let same = t (suc m) (suc n) f s u in omega arith
 
-    said-by : (n : ℕ) (l : Line) → getElem? lines n ≡ some l → (f : Fact) × Says cs lines (suc n) f × (f ∈ facts)
-    said-by n (line D c p q s) e =
-        let r = line-says cs lines h n D c p q s e in
-        let role-there = head-distinct cs (r .0) (credential-occurs cs c (r .0) (r .1)) in
-        let member-there = line-entity E R cs v lines h (suc n) (head (r .0)) D (r .2) in
-        (head (r .0) ∋ D, r .2, fact-over E D member-there (distinctHeads cs) (head (r .0)) role-there)
+      said-by : (n : ℕ) (l : Line) → getElem? lines n ≡ some l → (f : Fact) × Says book lines (suc n) f × (f ∈ facts)
+      said-by n (line D c p q s) e =
+          let r = line-says book lines h n D c p q s e in
+          let role-there = head-distinct cs (r .0) (only c (r .0) (r .1)) in
+          let member-there = line-entity (suc n) (head (r .0)) D (r .2) in
+          (head (r .0) ∋ D, r .2, fact-over E D member-there (distinctHeads cs) (head (r .0)) role-there)
 
-    said : (n : ℕ) → n < length lines → (f : Fact) × Says cs lines (suc n) f × (f ∈ facts)
-    said n b = let l = item-there lines n b in said-by n (l .0) (l .1)
+      said : (n : ℕ) → n < length lines → (f : Fact) × Says book lines (suc n) f × (f ∈ facts)
+      said n b = let l = item-there lines n b in said-by n (l .0) (l .1)

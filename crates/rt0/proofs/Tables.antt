@@ -7,7 +7,7 @@ use mathlib.Core.List.{List, [], _∷_, List·Memᴰ·head, List·Memᴰ·tail, 
 use native.Mathlib.Nat.{le-max-left, le-max-right}
 use native.Mathlib.Decide.{decLe}
 use native.Mathlib.Omega.{arith}
-use Rattle.rt0.specs.Credential.{Role, _·_, entity, role, link, intersection, Credential, _⟵_, _∈_}
+use Rattle.rt0.specs.Credential.{Role, _·_, entity, role, link, intersection, Credential, _⟵_, head, _∈_}
 use Rattle.rt0.specs.Membership.{Assignment, Gives, Closed, Member}
 use Rattle.rt0.specs.Table.{table, next, Same, Stable, Rounds}
 use Rattle.rt0.proofs.Least.{gives-more, member-closed, member-least}
@@ -19,7 +19,7 @@ next-more cs P Q h ρ D (c, i, e, g) = (c, i, e, gives-more c P Q h D g)
 
 -- closed: whatever one use of each credential gives is there already
 next-closed : (cs : List Credential) (P : Assignment) → Closed cs P → (ρ : Role) (D : ℕ) → next cs P ρ D → P ρ D
-next-closed cs P h ρ D (c, i, e, g) = rw (← e) (h c i D g)
+next-closed cs P h ρ D (c, i, e, g) = let its-head : head c ≡ ρ = e in rw (← its-head) (h c i D g)
 
 closed-next : (cs : List Credential) (P : Assignment) → ((ρ : Role) (D : ℕ) → next cs P ρ D → P ρ D) → Closed cs P
 closed-next cs P h c i D g = h _ D (c, i, refl, g)

@@ -109,7 +109,7 @@ cases =
     ∷ []
 
 -- the verdict and the number of rounds that a case states are right
-abbrev pub Right : Case → Type 0
-Right k =
+abbrev pub RightCase : Case → Type 0
+RightCase k =
     Answers (k .entities) (k .names) (openBy (shelves (k .absent))) (k .held) (k .into) (k .asked) (k .verdict)
     × Rounds (k .held) (k .rounds)

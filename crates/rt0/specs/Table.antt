@@ -40,11 +40,11 @@ occurs ρ [] = false
 occurs ρ (σ ∷ σs) = sameRole ρ σ || occurs ρ σs
 
 -- the list with the role put in front, unless the test holds
-abbrev pub unless : Bool → Role → List Role → List Role
-unless true ρ ρs = ρs
-unless false ρ ρs = ρ ∷ ρs
+abbrev pub addedUnless : Bool → Role → List Role → List Role
+addedUnless true ρ ρs = ρs
+addedUnless false ρ ρs = ρ ∷ ρs
 
 -- the distinct heads of a list of credentials: each head once
 unfoldable pub distinctHeads : List Credential → List Role
 distinctHeads [] = []
-distinctHeads (c ∷ cs) = unless (occurs (head c) (distinctHeads cs)) (head c) (distinctHeads cs)
+distinctHeads (c ∷ cs) = addedUnless (occurs (head c) (distinctHeads cs)) (head c) (distinctHeads cs)
