@@ -105,6 +105,10 @@ finds-below {At} k n place one hit back p = by (ltb k n) refl
         (λ h. rw (sym (Option·some-injective place p h)) there, λ a. ap some (one place p there a))
     by false e = (λ h. absurd (Option·none-ne-some p h), λ a. absurd (true≢false (sym (lt-ltb k n (back p a)) ∙ e)))
 
+-- a test that finds the places of one row finds those of another with the same places
+pub finds-as : {At Bt : ℕ → Type 0} (found : Option ℕ) → Finds found At → ((p : ℕ) → At p ↔ Bt p) → Finds found Bt
+finds-as found f same p = (λ h. same p .0 (f p .0 h), λ b. f p .1 (same p .1 b))
+
 lowest-back : (holds : ℕ → Bool) (n p : ℕ) → LowestBelow holds n p → lowest holds n < n
 lowest-back holds n p a = rw (← lowest-unique _ _ _ _ (is-lowest a) (lowest-is holds n)) (a .below)
 
@@ -135,15 +139,14 @@ pub data Told (rs : List Row) : Refusal → Type 0 where
   due : {n p : ℕ} → Due rs n p → Told rs (given n p)
   none-due : Clear rs → Told rs clear
 
-pub told : (ts : List Test) (rs : List Row) → Decided ts rs → Told rs (first ts)
-told [] [] d = none-due tt
-told [] (r ∷ rs) d = absurd d
-told (t ∷ ts) [] d = absurd d
-told (t ∷ ts) (r ∷ rs) (d, ds) = at (t .place) (d .1) (told ts rs ds)
+-- one row more in front, where the rest is told at least when this row does not apply
+pub told-more : (t : Test) (ts : List Test) (r : Row) (rs : List Row) → t .number ≡ r .number → Finds (t .place) (r .At)
+    → ((Applies r → ⊥) → Told rs (first ts)) → Told (r ∷ rs) (first (t ∷ ts))
+told-more t ts r rs same finds later = at (t .place) finds
   where
-    at : (x : Option ℕ) → Finds x (r .At) → Told rs (first ts) → Told (r ∷ rs) (pick (t .number) x (first ts))
-    at (some p) h later = due (inl (sym (d .0), h p .0 refl))
-    at none h later = after (first ts) later
+    at : (x : Option ℕ) → Finds x (r .At) → Told (r ∷ rs) (pick (t .number) x (first ts))
+    at (some p) h = due (inl (sym same, h p .0 refl))
+    at none h = after (first ts) (later none-applies)
       where
         none-applies : Applies r → ⊥
         none-applies (p, a) = Option·none-ne-some p (h p .1 a)
@@ -151,6 +154,12 @@ told (t ∷ ts) (r ∷ rs) (d, ds) = at (t .place) (d .1) (told ts rs ds)
         after : (x : Refusal) → Told rs x → Told (r ∷ rs) x
         after (given n p) (due e) = due (inr (none-applies, e))
         after clear (none-due c) = none-due (none-applies, c)
+
+pub told : (ts : List Test) (rs : List Row) → Decided ts rs → Told rs (first ts)
+told [] [] d = none-due tt
+told [] (r ∷ rs) d = absurd d
+told (t ∷ ts) [] d = absurd d
+told (t ∷ ts) (r ∷ rs) (d, ds) = told-more t ts r rs (d .0) (d .1) (λ _. told ts rs ds)
 
 -- What a promise by a table says.
 
@@ -181,3 +190,8 @@ judged-same rows one (refused d k) (refused e l) = let same = due-unique rows on
 judged-same rows one (refused d k) (passed _ _ c g) = absurd (due-clear rows _ _ c d)
 judged-same rows one (passed _ _ c g) (refused d k) = absurd (due-clear rows _ _ c d)
 judged-same rows one (passed y z c g) (passed v w d h) = (y ∙ sym v, z ∙ sym w, inr (g, h))
+
+-- One table behind another: what is told of the second where no row of the first applies.
+pub told-behind : (rs ss : List Row) (x : Refusal) → Clear rs → Told ss x → Told (rs ++ ss) x
+told-behind rs ss (given n p) c (due d) = due (due-later rs ss n p c d)
+told-behind rs ss clear c (none-due d) = none-due (clear-both rs ss c d)

@@ -10,7 +10,9 @@ use mathlib.Core.List.{List, [], _∷_, _++_, List·Memᴰ·not-nil, List·Mem�
 use borrow.Author.Tests.{le-ltb}
 use lib.ListN.{length, length-append, getElem?}
 use Rattle.rt0.specs.Credential.{Credential, Valid, AllValid, IsEntity, _∈_}
-use Rattle.rt0.specs.Slip.{item}
+use Rattle.rt0.specs.Book.{item, Numbers}
+use Rattle.rt0.specs.Holding.{SoundHolding}
+use Rattle.rt0.proofs.Books.{book-numbers}
 use Rattle.rt0.proofs.Items.{item-append, item-last}
 use Rattle.base.specs.Byte.{byteAt}
 use Rattle.base.proofs.Lowest.{Missed}
@@ -24,7 +26,7 @@ use Rattle.bundle.specs.declared.access.Mark.the-variants.{Present, Abse
 use Rattle.bundle.specs.Layout.{entitiesOf, namesOf, recordsOf, blocksFor, recordBytes, badRecord}
 use Rattle.bundle.specs.Rows.{Accepts}
 use Rattle.bundle.specs.Access.{markOf, recordOf}
-use Rattle.bundle.specs.Held.{credentials, held}
+use Rattle.bundle.specs.Held.{credentials, held, bookIn, holdingIn}
 use Rattle.bundle.proofs.Stages.{length-right}
 use Rattle.bundle.proofs.Passed.{clear-passed}
 use Rattle.bundle.proofs.FirstBlock.{entities-right, names-right, records-right, mark-right, behind-right}
@@ -137,7 +139,7 @@ record-of bytes i l m =
 
 module _ (bytes : List ℕ) (s : Sizes) (h : Accepts bytes s) where
   -- record number n is the credential of that number
-  pub record-credential : (n : ℕ) → 1 ≤ n → n ≤ s .records → credentialOf (recordOf bytes n) ≡ item (held bytes) n
+  pub record-credential : (n : ℕ) → 1 ≤ n → n ≤ s .records → credentialOf (recordOf bytes n) ≡ bookIn bytes n
   record-credential zero l m = absurd (omega arith)
   record-credential (suc i) l m =
       let p = clear-passed bytes (h .clear) in
@@ -149,11 +151,23 @@ module _ (bytes : List ℕ) (s : Sizes) (h : Accepts bytes s) where
       (record-is (entitiesOf bytes) (namesOf bytes) (recordBytes bytes i) (p .right-records i among))
 
   -- there is one
-  pub record-there : (n : ℕ) → 1 ≤ n → n ≤ s .records → (c : Credential) × (item (held bytes) n ≡ some c)
+  pub record-there : (n : ℕ) → 1 ≤ n → n ≤ s .records → (c : Credential) × (bookIn bytes n ≡ some c)
   record-there zero l m = absurd (omega arith)
   record-there (suc i) l m =
       let c = accepted-contents bytes s h in
       (credentialIn (recordBytes bytes i), credential-item bytes (recordsOf bytes) i (omega (arith, c .records)))
+
+  -- what a question on an accepted bundle is asked of is sound
+  pub holding-sound : SoundHolding (holdingIn bytes)
+  holding-sound =
+      let c = accepted-contents bytes s h in
+      let E : s .entities ≡ entitiesOf bytes = c .entities in
+      let R : s .names ≡ namesOf bytes = c .names in
+      record {
+        valid = rw (← E, ← R) (c .valid);
+        numbered = rw length-credentials at (book-numbers (held bytes));
+        few = omega (arith, c .records, c .most-records);
+      }
 
 -- records appended after the last keep the earlier ones as they were
 pub records-kept : (bytes more : List ℕ) (N M : ℕ) (ks : List Credential) → credentials more M ≡ credentials bytes N ++ ks

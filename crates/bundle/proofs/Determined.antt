@@ -4,7 +4,7 @@ use mathlib.Core.Path.{_≡_, refl, sym, ap, _∙_}
 use mathlib.Core.Logic.{_⊎_, inl, inr}
 use mathlib.Core.List.{List}
 use native.Mathlib.Omega.{arith}
-use Rattle.base.specs.Refusals.{Clear, refused, passed}
+use Rattle.base.specs.Refusals.{Clear, Due, refused, passed}
 use Rattle.base.proofs.Refusals.{due-unique, due-clear, due-number}
 use Rattle.bundle.specs.declared.read.Sizes.{Sizes}
 use Rattle.bundle.specs.declared.read.Reading.{Reading}
@@ -18,6 +18,11 @@ module _ (bytes : List ℕ) where
   -- an accepted bundle has an entity
   some-sizes : Clear (readerRows bytes) → noSizes ≡ sizesIn bytes → ⊥
   some-sizes c e = omega (arith, accepted-contents bytes noSizes (record { clear = c; said = e }) .some-entity)
+
+  -- a refusal is one that is due
+  pub reads-refused : (n p : ℕ) → Reads bytes (Refused n p) → Due (readerRows bytes) n p
+  reads-refused n p (refused d k) = d
+  reads-refused n p (passed _ _ c e) = absurd (some-sizes c e)
 
   pub readings-equal : (r t : Reading) → Reads bytes r → Reads bytes t → r ≡ t
   readings-equal (Accepted s) (Accepted t) (passed _ _ c e) (passed _ _ d f) = ap Accepted (e ∙ sym f)

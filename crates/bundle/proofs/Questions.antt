@@ -7,7 +7,7 @@ use native.Mathlib.Omega.{arith}
 use Rattle.rt0.specs.Credential.{IsEntity, IsName}
 use Rattle.base.specs.Range.{outside}
 use Rattle.base.specs.Refusals.{Applies, OnePlace, Finds, zeroIf}
-use Rattle.base.proofs.Flags.{Tells, or-tells-three, outside-tells, or-false, inside, not-true-false, clash-flag}
+use Rattle.base.proofs.Flags.{Tells, or-tells-three, outside-tells, or-false, inside, inside-flag, not-true-false, clash-flag}
 use Rattle.base.proofs.Refusals.{zero-place, zero-finds}
 use Rattle.bundle.specs.declared.read.Sizes.{Sizes}
 use Rattle.bundle.specs.declared.question.Question.{Question}
@@ -48,3 +48,16 @@ module _ (bytes : List ℕ) (s : Sizes) (q : Question) (h : Accepts bytes s) whe
       let E : s .entities ≡ entitiesOf bytes = cc (h .said) in
       let R : s .names ≡ namesOf bytes = cc (h .said) in
       clash-flag (question-tells (entitiesOf bytes) (namesOf bytes) q .1 wrong) (rw (E, R) at w)
+
+  -- where the row does not apply the question is within its range, and the other way round
+  pub clear-asked : (Applies (questionRow bytes q) → ⊥) → Asked bytes s q
+  clear-asked none = asked-right (not-true-false _ (λ w. none (0, question-applies w)))
+
+pub asked-clear : (bytes : List ℕ) (s : Sizes) (q : Question) → Asked bytes s q → Applies (questionRow bytes q) → ⊥
+asked-clear bytes s q a =
+    question-clear bytes s q (a .accepts)
+    (rw (
+      inside-flag (s .entities) (q .person) (a .person .above) (a .person .within),
+      inside-flag (s .entities) (q .entity) (a .entity .above) (a .entity .within),
+      inside-flag (s .names) (q .name) (a .name .above) (a .name .within),
+    ))

@@ -3,186 +3,106 @@
 -- two answers that keep the promise are equal.
 use Prim.Native.Nat.{ℕ, zero, suc, _+_, _*_, _/_, _%_, _≤_, _<_}
 use native.Mathlib.Omega.{arith}
-use mathlib.Core.Path.{_≡_, refl, sym, _∙_}
-use mathlib.Core.Bool.{Bool, true, false, cond, _||_}
-use mathlib.Core.Logic.{_↔_}
-use mathlib.Core.List.{List, [], _++_, append-nil}
-use borrow.Author.Tests.{ne-eqb, eq-eqb, le-ltb}
+use mathlib.Core.Path.{_≡_, refl, sym, ap, _∙_}
+use mathlib.Core.Bool.{true, false}
+use mathlib.Core.Logic.{_↔_, inl, inr, ⊎-elim}
+use mathlib.Core.List.{List, [], _∷_, _++_, append-nil}
 use lib.ListN.{length, take, getD}
 use lib.Seq.{getD-take, length-take-le}
-use lib.Dec.{ltb}
-use Rattle.rt0.specs.Credential.{_·_, Credential, _∈_}
+use Rattle.rt0.specs.Credential.{Credential, _∈_}
 use Rattle.rt0.specs.Membership.{Member}
-use Rattle.rt0.specs.Slip.{SlipFor}
+use Rattle.rt0.specs.Book.{Keeps}
+use Rattle.rt0.specs.Slip.{SlipFor, Says, _∋_}
 use Rattle.rt0.specs.Bytes.{lineFrom, linesOf, bytesOf}
 use Rattle.rt0.proofs.Slips.{slip-sound, slip-lasts}
-use Rattle.rt0.proofs.SlipBytes.{length-bytesOf, linesOf-bytesOf, bytesOf-small}
+use Rattle.rt0.proofs.Books.{book-keeps}
+use Rattle.rt0.proofs.SlipBytes.{length-bytesOf, linesOf-bytesOf, bytesOf-small, length-linesOf}
 use Rattle.rt0.proofs.Bounds.{slip-fits}
-use Rattle.bundle.specs.declared.read.Reading.{Reading}
-use Rattle.bundle.specs.declared.read.Reading.the-variants as reading
-use Rattle.bundle.specs.Lowest.{lowest}
-use Rattle.bundle.specs.Layout.{outside}
-use Rattle.bundle.specs.Record.{credentials}
-use Rattle.bundle.specs.Reading.{readOf}
-use Rattle.bundle.proofs.Lowest.{any-false, lowest-none}
-use Rattle.bundle.proofs.Stages.{or-false}
-use Rattle.bundle.proofs.Flags.{inside, inside-flag}
-use Rattle.bundle.proofs.Accepted.{accepted-contents, length-credentials}
+use Rattle.base.specs.Refusals.{Clear, refused, passed}
+use Rattle.base.proofs.Flags.{not-true-false}
+use Rattle.base.proofs.Refusals.{clear-first, clear-later, clear-both, due-number, judged-given, judged-same}
+use Rattle.bundle.specs.declared.read.Sizes.{Sizes}
+use Rattle.bundle.specs.declared.question.Question.{Question}
+use Rattle.bundle.specs.Layout.{sizesIn, entitiesOf, namesOf}
+use Rattle.bundle.specs.Rows.{readerRows, Accepts}
+use Rattle.bundle.specs.Held.{held, bookIn}
+use Rattle.bundle.specs.Question.{roleAsked, questionRow, Asked}
+use Rattle.bundle.proofs.Accepted.{accepted-contents, holding-sound}
+use Rattle.bundle.proofs.Questions.{asked-clear, clear-asked}
 use Rattle.checker.specs.declared.check.Checked.{Checked}
 use Rattle.checker.specs.declared.check.Checked.the-variants.{Accepted, Refused}
-use Rattle.checker.specs.Premise.{lineWrong}
-use Rattle.checker.specs.Checking.{questionWrong, slipLengthWrong, lastStates, checkLast, checkLines, checkSlip, checkRead, checkOf}
-use Rattle.checker.specs.Shows.{Asked, Shows}
-use Rattle.checker.proofs.Answers.{slip-length-right, last-passed, lines-passed, length-passed, question-passed}
-use Rattle.checker.proofs.Rules.{slip-right, last-right}
+use Rattle.checker.specs.Rows.{linesIn, slipRows, checkerRows, Checks}
+use Rattle.checker.specs.Shown.{Shown}
+use Rattle.checker.proofs.Refusals.{later, checker-numbers, slip-clear, clear-slip}
 
--- From an acceptance back to what every stage saw.
+module _ (bundle : List ℕ) (q : Question) (slip : List ℕ) where
+  -- From an acceptance to what it shows, and back.
 
-refused-not : {number place n : ℕ} → Refused number place ≡ Accepted n → ⊥
-refused-not h = let z : _≡_ {A = ℕ} 0 1 = cc in omega arith
+  module _ (n : ℕ) where
+    accepted-shown : Checks bundle q slip (Accepted n) → Shown bundle q slip n
+    accepted-shown (refused d _) = absurd (omega (arith, due-number (checkerRows bundle q slip) (checker-numbers bundle q slip) 0 0 d))
+    accepted-shown (passed _ _ c lines) =
+        let accepts : Accepts bundle (sizesIn bundle) = record { clear = clear-first (readerRows bundle) (later bundle q slip) c; said = refl } in
+        let (question-none, slip-none) = clear-later (readerRows bundle) (later bundle q slip) c in
+        let asked = clear-asked bundle (sizesIn bundle) q accepts question-none in
+        let (some-line, most-lines, size, right) = clear-slip bundle q slip (sizesIn bundle) accepts slip-none in
+        record {
+          sizes = sizesIn bundle;
+          asked = asked;
+          some-line = rw lines some-line;
+          most-lines = rw lines most-lines;
+          size = rw lines size;
+          right = rw lines right;
+        }
 
--- a stage that refuses where its flag is true, and else hands on
-passed : {n : ℕ} (wrong : Bool) (number place : ℕ) (next : Checked) → cond wrong (Refused number place) next ≡ Accepted n
-    → (wrong ≡ false) × (next ≡ Accepted n)
-passed true number place next h = absurd (refused-not h)
-passed false number place next h = (refl, h)
+    shown-accepted : Shown bundle q slip n → Checks bundle q slip (Accepted n)
+    shown-accepted h =
+        let asked = h .asked in
+        let lines : n ≡ length slip / 8 = omega (arith, h .size) in
+        let rows = slip-clear bundle q slip (h .sizes) (asked .accepts) n (h .some-line) (h .most-lines) (h .size) (h .right) in
+        passed refl refl (clear-both (readerRows bundle) (later bundle q slip) (asked .accepts .clear) (asked-clear bundle (h .sizes) q asked, rows)) lines
 
--- the last stage, which refuses where its flag is false
-fitted : {n : ℕ} (right : Bool) (number place m : ℕ) → cond right (Accepted m) (Refused number place) ≡ Accepted n
-    → (right ≡ true) × (m ≡ n)
-fitted true number place m h = (refl, cc)
-fitted false number place m h = absurd (refused-not h)
+    -- Accepted exactly when the slip shows it.
+    pub accepted-exactly : Checks bundle q slip (Accepted n) ↔ Shown bundle q slip n
+    accepted-exactly = (accepted-shown, shown-accepted)
 
-module _ (bundle : List ℕ) (D A r : ℕ) where
-  question-right : (E R N : ℕ) → readOf bundle ≡ reading.Accepted E R N → questionWrong E R D A r ≡ false → Asked bundle D A r E R N
-  question-right E R N e h =
-      let (people, name) = or-false (outside E D || outside E A) (outside R r) h in
-      let (member, issuer) = or-false (outside E D) (outside E A) people in
-      let d = inside E D member in
-      let a = inside E A issuer in
-      let n = inside R r name in
-      record {
-        read = e;
-        member = record { above = d .0; within = d .1 };
-        issuer = record { above = a .0; within = a .1 };
-        name = record { above = n .0; within = n .1 };
-      }
-
-  right-question : (E R N : ℕ) → Asked bundle D A r E R N → questionWrong E R D A r ≡ false
-  right-question E R N q =
-      rw (
-        inside-flag E D (q .member .above) (q .member .within),
-        inside-flag E A (q .issuer .above) (q .issuer .within),
-        inside-flag R r (q .name .above) (q .name .within),
-      )
-
-right-size : (size n : ℕ) → 1 ≤ n → n ≤ 7680 → size ≡ 8 * n → slipLengthWrong size ≡ false
-right-size size n some-line most-lines e =
-    let nonzero : size ≡ 0 → ⊥ = λ z. omega arith in
-    let most : size ≤ 61440 = omega arith in
-    let whole : size % 8 ≡ 0 = omega arith in
-    rw (ne-eqb size 0 nonzero, le-ltb 61440 size most, eq-eqb (size % 8) 0 whole)
-
-module _ (bundle : List ℕ) (D A r : ℕ) (slip : List ℕ) (n : ℕ) where
-  slip-shows : (E R N : ℕ) → Asked bundle D A r E R N → checkSlip (credentials bundle N) (A · r) D slip ≡ Accepted n
-      → Shows bundle D A r slip n
-  unfolding checkSlip checkLines checkLast
-  slip-shows E R N asked h =
-      let cs = credentials bundle N in
-      let m = length slip / 8 in
-      let i = lowest (lineWrong cs slip) m in
-      let (right-length, later) = passed (slipLengthWrong (length slip)) 9 0 (checkLines cs (A · r) D slip m) h in
-      let (none-wrong, last) = passed (ltb i m) 10 (i + 1) (checkLast cs (A · r) D slip m) later in
-      let (states, same) = fitted (lastStates cs (A · r) D slip m) 11 0 m last in
-      let (some-line, most-lines, size) = slip-length-right (length slip) right-length in
-      let valid = accepted-contents bundle E R N (asked .read) .valid in
-      let shown : SlipFor cs (A · r) D (linesOf slip m) = record {
-        right = slip-right E R cs valid slip m .0 (any-false (lineWrong cs slip) m none-wrong);
-        last = last-right cs slip m (A · r) D .0 states;
-      } in
-      record {
-        entities = E;
-        names = R;
-        records = N;
-        asked = asked;
-        some-line = omega arith;
-        most-lines = omega arith;
-        size = omega arith;
-        right = rw same at shown;
-      }
-
-  accepted-shows : checkOf bundle D A r slip ≡ Accepted n → Shows bundle D A r slip n
-  unfolding checkOf checkRead
-  accepted-shows = from (readOf bundle) refl
-    where
-      from : (x : Reading) → readOf bundle ≡ x → checkRead x bundle D A r slip ≡ Accepted n → Shows bundle D A r slip n
-      from (reading.Refused number place) e h = absurd (refused-not h)
-      from (reading.Accepted E R N) e h =
-          let (right, answer) = passed (questionWrong E R D A r) 7 0 (checkSlip (credentials bundle N) (A · r) D slip) h in
-          slip-shows E R N (question-right bundle D A r E R N e right) answer
-
-  -- and from what a slip shows, through every stage to the answer
-  shows-accepted : Shows bundle D A r slip n → checkOf bundle D A r slip ≡ Accepted n
-  shows-accepted h =
-      let E = h .entities in
-      let R = h .names in
-      let N = h .records in
-      let cs = credentials bundle N in
-      let read = h .asked .read in
-      let missed = slip-right E R cs (accepted-contents bundle E R N read .valid) slip n .1 (h .right .right) in
-      let lines : length slip / 8 ≡ n = omega (arith, h .size) in
-      let last = last-passed cs (A · r) D slip n (last-right cs slip n (A · r) D .1 (h .right .last)) in
-      let all = lines-passed cs (A · r) D slip n n (lowest-none (lineWrong cs slip) n n (omega arith) (omega arith) missed) (omega arith) in
-      let size = length-passed cs (A · r) D slip (right-size (length slip) n (h .some-line) (h .most-lines) (h .size)) in
-      let slip-passed : Accepted n ≡ checkSlip cs (A · r) D slip = last ∙ all ∙ rw lines at size in
-      sym (question-passed bundle D A r slip E R N read _ (right-question bundle D A r E R N (h .asked)) slip-passed)
-
-  -- Accepted exactly when the slip shows it.
-  pub accepted-exactly : (checkOf bundle D A r slip ≡ Accepted n) ↔ Shows bundle D A r slip n
-  accepted-exactly = (accepted-shows, shows-accepted)
-
-  -- What is accepted is a membership.
-  pub accepted-member : (E R N : ℕ) → readOf bundle ≡ reading.Accepted E R N → checkOf bundle D A r slip ≡ Accepted n
-      → Member (credentials bundle N) (A · r) D
-  accepted-member E R N e h =
-      let s = accepted-shows h in
-      let same : s .records ≡ N = cc (s .asked .read) in
-      rw same at (slip-sound (credentials bundle (s .records)) (linesOf slip n) (A · r) D (s .right))
+    -- What is accepted is a membership.
+    pub accepted-member : Checks bundle q slip (Accepted n) → Member (held bundle) (roleAsked q) (q .person)
+    accepted-member h =
+        let s = accepted-shown h in
+        let sound = holding-sound bundle (s .sizes) (s .asked .accepts) in
+        slip-sound (bookIn bundle) (held bundle) (sound .numbered .only) (linesOf slip n) (roleAsked q) (q .person) (s .right)
 
 -- Every membership has a slip that is accepted, of at most 61,440 bytes, each below 256.
 
-pub record SlipThere (bundle : List ℕ) (D A r : ℕ) : Type 0 where
+pub record SlipThere (bundle : List ℕ) (q : Question) : Type 0 where
   pub slip : List ℕ
   pub lines : ℕ
-  pub accepted : checkOf bundle D A r slip ≡ Accepted lines
+  pub accepted : Checks bundle q slip (Accepted lines)
   pub size : length slip ≤ 61440
   pub small : (b : ℕ) → b ∈ slip → b < 256
 
-pub member-accepted : (bundle : List ℕ) (D A r E R N : ℕ) → Asked bundle D A r E R N → Member (credentials bundle N) (A · r) D
-    → SlipThere bundle D A r
-member-accepted bundle D A r E R N asked m =
-    let cs = credentials bundle N in
-    let held = accepted-contents bundle E R N (asked .read) in
-    let few : length cs ≤ 240 = omega (arith, length-credentials bundle N, held .most-records) in
-    let (lines, right, once, some-line, most-lines) = slip-fits E R (held .most-entities) cs (held .valid) few (A · r) D m in
+pub member-accepted : (bundle : List ℕ) (s : Sizes) (q : Question) → Asked bundle s q → Member (held bundle) (roleAsked q) (q .person)
+    → SlipThere bundle q
+member-accepted bundle s q asked m =
+    let accepts = asked .accepts in
+    let contents = accepted-contents bundle s accepts in
+    let sound = holding-sound bundle s accepts in
+    let E : entitiesOf bundle ≤ 32 = omega (arith, contents .entities, contents .most-entities) in
+    let (lines, right, once, some-line, most-lines) =
+    slip-fits _ _ E (held bundle) (sound .valid) (bookIn bundle) (sound .numbered) (sound .few) (roleAsked q) (q .person) m in
     let size = length-bytesOf lines in
     let back : linesOf (bytesOf lines) (length lines) ≡ lines = rw append-nil at (linesOf-bytesOf lines []) in
-    let shows : Shows bundle D A r (bytesOf lines) (length lines) = record {
-      entities = E;
-      names = R;
-      records = N;
-      asked = asked;
-      some-line = some-line;
-      most-lines = most-lines;
-      size = size;
-      right = rw back right;
-    } in
+    let shown : Shown bundle q (bytesOf lines) (length lines) =
+    record { sizes = s; asked = asked; some-line = some-line; most-lines = most-lines; size = size; right = rw back right } in
     record {
       slip = bytesOf lines;
       lines = length lines;
-      accepted = accepted-exactly bundle D A r (bytesOf lines) (length lines) .1 shows;
+      accepted = accepted-exactly bundle q (bytesOf lines) (length lines) .1 shown;
       size = omega arith;
-      small = bytesOf-small E R cs (omega (arith, held .most-entities)) (omega arith) (held .valid) lines (right .right) (omega arith);
+      small =
+          bytesOf-small _ _ (held bundle) (sound .valid) (bookIn bundle) _ (sound .numbered) (omega arith) (omega (arith, sound .few))
+          lines (right .right) (omega arith);
     }
 
 -- A right slip that stands at the start of a buffer, as the search leaves it, is accepted.
@@ -206,16 +126,14 @@ same-lines xs ys zero h = refl
 same-lines xs ys (suc n) h =
     rw (same-lines xs ys n (λ k l. h k (omega arith)), same-line xs ys (8 * n) (λ k l. h k (omega arith)))
 
-pub written-accepted : (bundle : List ℕ) (D A r E R N : ℕ) → Asked bundle D A r E R N
+pub written-accepted : (bundle : List ℕ) (s : Sizes) (q : Question) → Asked bundle s q
     → (bytes : List ℕ) (n : ℕ) → 1 ≤ n → n ≤ 7680 → 8 * n ≤ length bytes
-    → SlipFor (credentials bundle N) (A · r) D (linesOf bytes n) → checkOf bundle D A r (take (8 * n) bytes) ≡ Accepted n
-written-accepted bundle D A r E R N asked bytes n some-line most-lines long right =
+    → SlipFor (bookIn bundle) (roleAsked q) (q .person) (linesOf bytes n) → Checks bundle q (take (8 * n) bytes) (Accepted n)
+written-accepted bundle s q asked bytes n some-line most-lines long right =
     let start = take (8 * n) bytes in
     let same : linesOf start n ≡ linesOf bytes n = same-lines start bytes n (λ k l. getD-take (8 * n) bytes k 0 l) in
-    accepted-exactly bundle D A r start n .1 (record {
-      entities = E;
-      names = R;
-      records = N;
+    accepted-exactly bundle q start n .1 (record {
+      sizes = s;
       asked = asked;
       some-line = some-line;
       most-lines = most-lines;
@@ -223,36 +141,33 @@ written-accepted bundle D A r E R N asked bytes n some-line most-lines long righ
       right = rw same right;
     })
 
--- What is accepted stays accepted when credentials are appended after the last, over the same entities and names.
+-- What is accepted stays accepted over any bundle that has the same entities and names and keeps what the numbers name; so also when
+-- credentials are appended after the last.
 
-pub accepted-lasts : (bundle more : List ℕ) (D A r : ℕ) (slip : List ℕ) (n E R N M : ℕ) (ks : List Credential)
-    → readOf bundle ≡ reading.Accepted E R N → readOf more ≡ reading.Accepted E R M → credentials more M ≡ credentials bundle N ++ ks
-    → checkOf bundle D A r slip ≡ Accepted n → checkOf more D A r slip ≡ Accepted n
-accepted-lasts bundle more D A r slip n E R N M ks e f appended h =
-    let s = accepted-exactly bundle D A r slip n .0 h in
-    let read = s .asked .read in
-    let same-entities : s .entities ≡ E = cc in
-    let same-names : s .names ≡ R = cc in
-    let same-records : s .records ≡ N = cc in
-    let right : SlipFor (credentials bundle N) (A · r) D (linesOf slip n) = rw same-records at (s .right) in
-    accepted-exactly more D A r slip n .1 (record {
-      entities = E;
-      names = R;
-      records = M;
+pub accepted-kept : (bundle more : List ℕ) (s t : Sizes) (q : Question) (slip : List ℕ) (n : ℕ) → Accepts bundle s → Accepts more t
+    → s .entities ≡ t .entities → s .names ≡ t .names → Keeps (bookIn bundle) (bookIn more)
+    → Checks bundle q slip (Accepted n) → Checks more q slip (Accepted n)
+accepted-kept bundle more s t q slip n h k E R keeps c =
+    let shown = accepted-exactly bundle q slip n .0 c in
+    let same : shown .sizes ≡ s = shown .asked .accepts .said ∙ sym (h .said) in
+    let entities : shown .sizes .entities ≡ t .entities = ap (λ (x : Sizes). x .entities) same ∙ E in
+    let names : shown .sizes .names ≡ t .names = ap (λ (x : Sizes). x .names) same ∙ R in
+    accepted-exactly more q slip n .1 (record {
+      sizes = t;
       asked = record {
-        read = f;
-        member = rw same-entities at (s .asked .member);
-        issuer = rw same-entities at (s .asked .issuer);
-        name = rw same-names at (s .asked .name);
+        accepts = k;
+        person = rw entities at (shown .asked .person);
+        entity = rw entities at (shown .asked .entity);
+        name = rw names at (shown .asked .name);
       };
-      some-line = s .some-line;
-      most-lines = s .most-lines;
-      size = s .size;
-      right = rw appended (slip-lasts (credentials bundle N) ks (linesOf slip n) (A · r) D right);
+      some-line = shown .some-line;
+      most-lines = shown .most-lines;
+      size = shown .size;
+      right = slip-lasts (bookIn bundle) (bookIn more) keeps (linesOf slip n) (roleAsked q) (q .person) (shown .right);
     })
 
--- Two answers that keep the promise are equal.
-
-pub answers-equal : (bundle : List ℕ) (D A r : ℕ) (slip : List ℕ) (x y : Checked) → x ≡ checkOf bundle D A r slip
-    → y ≡ checkOf bundle D A r slip → x ≡ y
-answers-equal bundle D A r slip x y e f = e ∙ sym f
+pub accepted-lasts : (bundle more : List ℕ) (s t : Sizes) (q : Question) (slip : List ℕ) (n : ℕ) (ks : List Credential)
+    → Accepts bundle s → Accepts more t → s .entities ≡ t .entities → s .names ≡ t .names → held more ≡ held bundle ++ ks
+    → Checks bundle q slip (Accepted n) → Checks more q slip (Accepted n)
+accepted-lasts bundle more s t q slip n ks h k E R appended =
+    accepted-kept bundle more s t q slip n h k E R (rw appended (book-keeps (held bundle) ks))

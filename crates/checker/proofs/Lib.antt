@@ -1,7 +1,8 @@
--- The theorems of the checker. Rules: the tests are RT0's rules. Accepts: accepted exactly when the slip shows it; sound, complete,
--- lasting. Refusals: when each refusal is given. Lookups and Answers serve the functions' own proofs.
+-- The theorems about the checker. Accepts: a slip is accepted exactly when it shows what is asked; what is accepted is a membership, every
+-- membership has a slip that is accepted, and what is accepted lasts. Refusals: what the tests give is what the table says; any two
+-- answers are equal. Rules: the tests are RT0's rules. Answers and Lookups serve the functions' own proofs.
 pub mod Lookups
 pub mod Answers
 pub mod Rules
-pub mod Accepts
 pub mod Refusals
+pub mod Accepts

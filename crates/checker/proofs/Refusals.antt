@@ -1,311 +1,229 @@
--- Each refusal is given exactly when its row says so and no lower number applies, with the place of that row; and a slip is accepted
--- exactly when no row applies. Nothing else is ever answered.
--- Each stage refuses where its row applies, and else hands on. So the answer is a refusal that is due, or an acceptance where no row
--- applies (`outcome`); and only one refusal is due (`due-number`, `due-place`).
+-- What the checker computes is what its table of refusals says; and any two answers that keep the promise are equal.
 use Prim.Native.Nat.{ℕ, suc, _+_, _*_, _/_, _%_, _<_, _≤_}
+use mathlib.Core.Path.{_≡_, refl, sym, ap, _∙_}
+use mathlib.Core.Bool.{Bool, true, false, cond, not}
+use mathlib.Core.Logic.{_↔_, inl, inr, ⊎-elim}
+use mathlib.Core.Option.{some}
+use mathlib.Core.List.{List, [], _∷_, _++_}
 use native.Mathlib.Decide.{decLt}
-use native.Mathlib.Numerals.{add-one}
 use native.Mathlib.Omega.{arith}
-use mathlib.Core.Path.{_≡_, refl, sym, ap, subst, subst₂, _∙_}
-use mathlib.Core.Bool.{Bool, true, false, not, _||_, true≢false}
-use mathlib.Core.Logic.{_↔_, _⊎_, inl, inr, ⊎-elim, ⊎-map, ⊎-swap}
-use mathlib.Core.List.{List}
-use borrow.Author.Count.{below-more}
-use borrow.Author.Tests.{eqb-true, eqb-false, ltb-true, ltb-false, not-true}
-use lib.ListN.{length}
-use lib.Dec.{eqb, ltb}
-use Rattle.rt0.specs.Credential.{_·_, Credential, AllValid}
-use Rattle.rt0.specs.Slip.{Line, _∋_, Says}
+use lib.ListN.{length, take}
+use Rattle.rt0.specs.Credential.{Role, _·_, Credential, AllValid}
+use Rattle.rt0.specs.Book.{Book, NamesOnly}
+use Rattle.rt0.specs.Slip.{Line, _∋_, Says, RightLine, RightSlip, SlipFor}
 use Rattle.rt0.specs.Bytes.{lineFrom, linesOf}
-use Rattle.rt0.proofs.SlipBytes.{linesOf-at}
+use Rattle.rt0.proofs.SlipBytes.{length-linesOf, linesOf-at}
+use Rattle.base.specs.Lowest.{LowestBelow, lowest}
+use Rattle.base.specs.Refusals.{Row, AllOnePlace, AllNumbered, OnePlace, FromOne, Finds, Due, Clear, Refusal, test, zeroIf, lowestFromOne, given, clear, refused, passed, first}
+use Rattle.base.proofs.Flags.{Tells, or-tells-three, eq-tells, lt-tells, not-tells, not-true-false, clash-flag}
+use Rattle.base.proofs.Lowest.{Missed}
+use Rattle.base.proofs.Refusals.{zero-place, from-one-place, lowest-place, zero-finds, lowest-finds-from-one, finds-as}
+use Rattle.base.proofs.Refusals.{one-place-both, numbered-both, due-first, due-later, due-number, due-clear, due-unique}
+use Rattle.base.proofs.Refusals.{Told, due, none-due, told-more, clear-both, clear-first, clear-later, none-missed, missed-no}
+use Rattle.bundle.specs.declared.read.Sizes.{Sizes}
 use Rattle.bundle.specs.declared.read.Reading.{Reading}
 use Rattle.bundle.specs.declared.read.Reading.the-variants as reading
-use Rattle.bundle.specs.Lowest.{lowest}
-use Rattle.bundle.specs.Layout.{outside, entitiesOf, namesOf, recordsOf}
-use Rattle.bundle.specs.Reading.{readOf, accepted}
-use Rattle.bundle.specs.Rows.{row1, row2, row3, row4, row5, row6}
-use Rattle.bundle.specs.Rows.{Row as ReaderRow, Applies as ReaderApplies}
-use Rattle.bundle.proofs.Lowest.{Missed, IsLowest, lowest-is}
-use Rattle.bundle.proofs.Stages.{or-false}
-use Rattle.bundle.proofs.Flags.{inside, or-true, one-of-three}
-use Rattle.bundle.proofs.Accepted.{accepted-contents}
-use Rattle.bundle.proofs.Refusals.{number-range, refused-due as reader-refused-due, accepted-due as reader-accepted-due}
+use Rattle.bundle.specs.declared.question.Question.{Question}
+use Rattle.bundle.specs.Layout.{sizesIn}
+use Rattle.bundle.specs.Rows.{readerRows, Reads, Accepts}
+use Rattle.bundle.specs.Reading.{readOf}
+use Rattle.bundle.specs.Held.{bookIn}
+use Rattle.bundle.specs.Question.{roleAsked, questionWrong, questionRow}
+use Rattle.bundle.proofs.Refusals.{reader-places, reader-numbers, reads, reads-accepted}
+use Rattle.bundle.proofs.Determined.{reads-refused}
+use Rattle.bundle.proofs.Accepted.{holding-sound}
+use Rattle.bundle.proofs.Questions.{question-applies, question-clear}
 use Rattle.checker.specs.declared.check.Checked.{Checked}
 use Rattle.checker.specs.declared.check.Checked.the-variants.{Accepted, Refused}
 use Rattle.checker.specs.Premise.{lineWrong}
-use Rattle.checker.specs.Checking.{questionWrong, slipLengthWrong, lastStates, checkLast, checkLines, checkSlip, checkOf}
-use Rattle.checker.specs.Rows.{held, linesIn, Outside, Breaks, FirstBroken, OwnRow, row7, row9, row10, row11}
-use Rattle.checker.specs.Rows.{Row, reader, own, Applies, Due}
-use Rattle.checker.proofs.Answers.{slip-length-right, last-refused, last-passed, lines-refused, lines-passed}
-use Rattle.checker.proofs.Answers.{length-refused, length-passed, reader-refused, question-refused, question-passed}
+use Rattle.checker.specs.Rows.{linesIn, SlipLengthWrong, Breaks, FirstBroken, slipRows, checkerRows, Checks}
+use Rattle.checker.specs.Checking.{slipLengthWrong, lastStates, lastTests, lineTests, slipTests, checkedFor, checkBy, checkAfter, checkingOf}
+use Rattle.checker.proofs.Answers.{slip-length-right}
 use Rattle.checker.proofs.Rules.{line-at, line-right, slip-right, last-right}
 
--- Tests and what they tell.
-
-either : (test : Bool) → (test ≡ true) ⊎ (test ≡ false)
-either true = inl refl
-either false = inr refl
-
-outside-told : (most b : ℕ) → outside most b ≡ true → Outside most b
-outside-told most b h = ⊎-map (eqb-true b 0) (ltb-true most b) (or-true (eqb b 0) (ltb most b) h)
-
-not-outside : (most b : ℕ) → outside most b ≡ false → Outside most b → ⊥
-not-outside most b h (inl e) = omega (arith, inside most b h)
-not-outside most b h (inr l) = omega (arith, inside most b h)
-
--- Only one refusal is due.
-
-own-range : {bundle slip : List ℕ} {D A r place number : ℕ} → OwnRow bundle D A r slip number place
-    → (7 ≤ number) × (number ≤ 11) × (number ≡ 8 → ⊥)
-own-range (row7 o) = omega arith
-own-range (row9 o) = omega arith
-own-range (row10 o) = omega arith
-own-range (row11 o e) = omega arith
-
-same-broken : {cs : List Credential} {lines : List Line} {i j : ℕ} → FirstBroken cs lines i → FirstBroken cs lines j → i ≡ j
-same-broken {i = i} {j} f g = equal (decLt i j) (decLt j i)
+-- only one line is the first that breaks the rules
+broken-place : (book : Book) (lines : List Line) → OnePlace (FirstBroken book lines)
+broken-place book lines p q a b = equal (decLt p q) (decLt q p)
   where
-    equal : Dec (i < j) → Dec (j < i) → i ≡ j
-    equal (yes l) _ = absurd (g .lowest i l (f .breaks))
-    equal (no a) (yes l) = absurd (f .lowest j l (g .breaks))
-    equal (no a) (no b) = omega arith
+    equal : Dec (p < q) → Dec (q < p) → p ≡ q
+    equal (yes l) _ = absurd (b .lowest p l (a .breaks))
+    equal (no m) (yes l) = absurd (a .lowest q l (b .breaks))
+    equal (no m) (no l) = omega arith
 
-own-place : {bundle slip : List ℕ} {D A r p q number : ℕ} → OwnRow bundle D A r slip number p → OwnRow bundle D A r slip number q → p ≡ q
-own-place (row7 o) (row7 _) = refl
-own-place (row9 o) (row9 _) = refl
-own-place (row10 f) (row10 g) = ap suc (same-broken f g)
-own-place (row11 o e) (row11 _ _) = refl
+length-tells : (n : ℕ) → Tells (slipLengthWrong n) (SlipLengthWrong n)
+length-tells n = or-tells-three _ _ _ (eq-tells n 0) (lt-tells 61440 n) (not-tells _ (eq-tells _ 0))
 
-module _ (bundle : List ℕ) (D A r : ℕ) (slip : List ℕ) where
-  -- no number below this one applies
-  abbrev Clear : ℕ → Type 0
-  Clear number = (lower : ℕ) → lower < number → Applies bundle D A r slip lower → ⊥
-
-  -- where the reader's row is due, the reader refuses so
-  reader-answers : {number place : ℕ} → ReaderRow bundle number place → Clear number → readOf bundle ≡ reading.Refused number place
-  reader-answers {number} {place} row clear =
-      reader-refused-due bundle number place .1 (record { row = row; first = λ lower l (p, s). clear lower l (p, reader s) })
-
-  same-place : {p q number : ℕ} → Row bundle D A r slip number p → Row bundle D A r slip number q → Clear number → p ≡ q
-  same-place (reader x) (reader y) clear = cc (reader-answers x clear, reader-answers y clear)
-  same-place (reader x) (own y) clear = absurd (omega (arith, number-range x, own-range y))
-  same-place (own x) (reader y) clear = absurd (omega (arith, own-range x, number-range y))
-  same-place (own x) (own y) clear = own-place x y
-
-  due-number : {n m p q : ℕ} → Due bundle D A r slip n p → Due bundle D A r slip m q → n ≡ m
-  due-number {n} {m} {p} {q} d e = equal (decLt n m) (decLt m n)
+module _ (E R : ℕ) (cs : List Credential) (v : AllValid E R cs) (book : Book) (only : NamesOnly book cs) (slip : List ℕ) where
+  -- a line of the slip breaks its rules exactly where its test holds
+  breaks-wrong : (i : ℕ) → Breaks book (linesIn slip) i → (i < length slip / 8) × (lineWrong book slip i ≡ true)
+  breaks-wrong i b =
+      let (inside, same) = line-at slip (length slip / 8) i (b .broken) (b .there) in
+      let right = line-right E R cs v book only slip (length slip / 8) i (omega arith) in
+      (inside, by (lineWrong book slip i) refl (λ h. b .wrong (rw same (right .0 h))))
     where
-      equal : Dec (n < m) → Dec (m < n) → n ≡ m
-      equal (yes l) _ = absurd (e .first n l (p, d .row))
-      equal (no a) (yes l) = absurd (d .first m l (q, e .row))
-      equal (no a) (no b) = omega arith
+      by : (w : Bool) → lineWrong book slip i ≡ w → (lineWrong book slip i ≡ false → ⊥) → w ≡ true
+      by true e n = refl
+      by false e n = absurd (n e)
 
-  due-place : {n m p q : ℕ} → Due bundle D A r slip n p → Due bundle D A r slip m q → p ≡ q
-  due-place {q = q} d e =
-      same-place (d .row) (subst (λ (k : ℕ). Row bundle D A r slip k q) (due-number e d) (e .row)) (d .first)
+  wrong-breaks : (i : ℕ) → i < length slip / 8 → lineWrong book slip i ≡ true → Breaks book (linesIn slip) i
+  wrong-breaks i l h =
+      record {
+        broken = lineFrom slip (8 * i);
+        there = linesOf-at slip i (length slip / 8) l;
+        wrong = λ r. clash-flag h (line-right E R cs v book only slip (length slip / 8) i (omega arith) .1 r);
+      }
 
--- What an answer has to be, and how a stage hands that on.
+  -- so the lowest such line is the lowest whose test holds
+  broken-lowest : (i : ℕ) → LowestBelow (lineWrong book slip) (length slip / 8) i ↔ FirstBroken book (linesIn slip) i
+  broken-lowest i = (
+    λ a. record {
+      breaks = wrong-breaks i (a .below) (a .holds);
+      lowest = λ j l b. clash-flag (breaks-wrong j b .1) (a .lowest j l);
+    },
+    λ b. let (below, holds) = breaks-wrong i (b .breaks) in record {
+      below = below;
+      holds = holds;
+      lowest = λ j l. not-true-false _ (λ h. b .lowest j l (wrong-breaks j (omega arith) h));
+    },
+  )
 
--- a refusal that is due, or an acceptance where no row applies
-data Outcome (bundle : List ℕ) (D A r : ℕ) (slip : List ℕ) : Checked → Type 0 where
-  refused : {number place : ℕ} → Due bundle D A r slip number place → Outcome bundle D A r slip (Refused number place)
-  passed : ((number : ℕ) → Applies bundle D A r slip number → ⊥) → Outcome bundle D A r slip (Accepted (length slip / 8))
+  -- all lines right, where no test holds
+  all-right : Missed (lineWrong book slip) (length slip / 8) ↔ RightSlip book (linesIn slip)
+  all-right = slip-right E R cs v book only slip (length slip / 8)
 
-module _ (bundle : List ℕ) (D A r : ℕ) (slip : List ℕ) where
-  abbrev IsClear : ℕ → Type 0
-  IsClear = Clear bundle D A r slip
+  lines-find : Finds (lowestFromOne (lineWrong book slip) (length slip / 8)) (FromOne (FirstBroken book (linesIn slip)))
+  lines-find = finds-as _ (lowest-finds-from-one _ _) (λ p. (λ (k, e, a). (k, e, broken-lowest k .0 a), λ (k, e, b). (k, e, broken-lowest k .1 b)))
 
-  abbrev IsOutcome : Checked → Type 0
-  IsOutcome = Outcome bundle D A r slip
+  module _ (ρ : Role) (D : ℕ) where
+    last-tells : Missed (lineWrong book slip) (length slip / 8)
+        → Tells (not (lastStates book ρ D slip (length slip / 8)))
+        (RightSlip book (linesIn slip) × (Says book (linesIn slip) (length (linesIn slip)) (ρ ∋ D) → ⊥))
+    last-tells m =
+        let states = not-tells (lastStates book ρ D slip (length slip / 8)) (last-right book slip (length slip / 8) ρ D) in
+        (λ h. (all-right .0 m, states .0 h), λ w. states .1 (w .1))
 
-  -- the next number
-  clear-more : (number : ℕ) → 7 ≤ number → IsClear number → ((place : ℕ) → OwnRow bundle D A r slip number place → ⊥) → IsClear (number + 1)
-  clear-more number l clear unsaid = below-more (λ n. Applies bundle D A r slip n → ⊥) number clear none
-    where
-      none : Applies bundle D A r slip number → ⊥
-      none (place, reader x) = omega (arith, number-range x)
-      none (place, own x) = unsaid place x
-
-  -- a stage either refuses, and its row says so, or hands on, and its row does not apply
-  stage : {answer next : Checked} {Wrong Right : Type 0} (number place : ℕ) → 7 ≤ number
-      → (Wrong → Refused number place ≡ answer) → (Wrong → OwnRow bundle D A r slip number place)
-      → (Right → next ≡ answer) → (Right → (place : ℕ) → OwnRow bundle D A r slip number place → ⊥)
-      → Wrong ⊎ Right → (Right → IsClear (number + 1) → IsOutcome next) → IsClear number → IsOutcome answer
-  stage number place l refuses row passes unsaid (inl w) rest clear =
-      subst IsOutcome (refuses w) (refused (record { row = own (row w); first = clear }))
-  stage number place l refuses row passes unsaid (inr x) rest clear =
-      subst IsOutcome (passes x) (rest x (clear-more number l clear (unsaid x)))
-
-  -- The reader's refusals.
-
-  reader-due : {number place : ℕ} → readOf bundle ≡ reading.Refused number place → IsOutcome (checkOf bundle D A r slip)
-  reader-due {number} {place} h =
-      let due = reader-refused-due bundle number place .0 h in
-      let few = number-range (due .row) in
-      let first : IsClear number = λ lower l (p, x). clear (due .first) lower l p x (few .1) in
-      subst IsOutcome (reader-refused bundle D A r slip number place h) (refused (record { row = reader (due .row); first = first }))
-    where
-      clear : ((lower : ℕ) → lower < number → ReaderApplies bundle lower → ⊥) → (lower : ℕ) → lower < number → (p : ℕ)
-          → Row bundle D A r slip lower p → number ≤ 6 → ⊥
-      clear none lower l p (reader x) few = none lower l (p, x)
-      clear none lower l p (own x) few = omega (arith, own-range x)
-
--- A broken line, by its test.
-
-module _ (E R : ℕ) (cs : List Credential) (v : AllValid E R cs) (slip : List ℕ) (n : ℕ) where
-  breaks-told : (i : ℕ) → Breaks cs (linesOf slip n) i → lineWrong cs slip i ≡ false → ⊥
-  breaks-told i b h =
-      let (inside, same) = line-at slip n i (b .broken) (b .there) in
-      b .wrong (rw same (line-right E R cs v slip n i (omega arith) .0 h))
-
-  wrong-breaks : (i : ℕ) → i < n → lineWrong cs slip i ≡ true → Breaks cs (linesOf slip n) i
-  wrong-breaks i l h = record {
-    broken = lineFrom slip (8 * i);
-    there = linesOf-at slip i n l;
-    wrong = λ right. true≢false (sym h ∙ line-right E R cs v slip n i (omega arith) .1 right);
-  }
-
--- The checker's own refusals, for a bundle that the reader accepted.
-
-module _ (bundle : List ℕ) (D A r : ℕ) (slip : List ℕ) (h : readOf bundle ≡ accepted bundle) where
-  abbrev cs : List Credential
-  cs = held bundle
-
-  abbrev lines : ℕ
-  lines = length slip / 8
-
-  valid : AllValid (entitiesOf bundle) (namesOf bundle) cs
-  valid = accepted-contents bundle (entitiesOf bundle) (namesOf bundle) (recordsOf bundle) h .valid
-
-  -- 11: the last line
-  last-stage : Missed (lineWrong cs slip) lines → Clear bundle D A r slip 11 → Outcome bundle D A r slip (checkLast cs (A · r) D slip lines)
-  last-stage missed =
-      let flag = lastStates cs (A · r) D slip lines in
-      let (told, tells) = last-right cs slip lines (A · r) D in
-      let right = slip-right (entitiesOf bundle) (namesOf bundle) cs valid slip lines .0 missed in
-      stage bundle D A r slip 11 0 (omega arith) (last-refused cs (A · r) D slip lines)
-      (λ w. row11 right (λ s. true≢false (sym (tells s) ∙ w)))
-      (last-passed cs (A · r) D slip lines) (unsaid told) (⊎-swap (either flag)) (λ _. at-end)
-    where
-      unsaid : (lastStates cs (A · r) D slip lines ≡ true → Says cs (linesIn slip) (length (linesIn slip)) (A · r ∋ D))
-          → lastStates cs (A · r) D slip lines ≡ true → (place : ℕ) → OwnRow bundle D A r slip 11 place → ⊥
-      unsaid told w place (row11 right other) = other (told w)
-
-      at-end : Clear bundle D A r slip 12 → Outcome bundle D A r slip (Accepted lines)
-      at-end clear = passed (λ number a. clear number (small number a) a)
-        where
-          small : (number : ℕ) → Applies bundle D A r slip number → number < 12
-          small number (place, reader x) = omega (arith, number-range x)
-          small number (place, own x) = omega (arith, own-range x)
-
-  -- 10: the lines
-  lines-stage : Clear bundle D A r slip 10 → Outcome bundle D A r slip (checkLines cs (A · r) D slip lines)
-  lines-stage =
-      stage bundle D A r slip 10 (least + 1) (omega arith) (lines-refused cs (A · r) D slip lines least refl) broken
-      (lines-passed cs (A · r) D slip lines least refl) unsaid
-      (⊎-map (ltb-true least lines) (ltb-false least lines) (either (ltb least lines))) (λ l. last-stage (missed l))
-    where
-      least : ℕ
-      least = lowest (lineWrong cs slip) lines
-
-      is : IsLowest (lineWrong cs slip) lines least
-      is = lowest-is (lineWrong cs slip) lines
-
-      missed : lines ≤ least → Missed (lineWrong cs slip) lines
-      missed l i k = is .missed i (omega arith)
-
-      broken : least < lines → OwnRow bundle D A r slip 10 (least + 1)
-      broken l =
-          let told = breaks-told (entitiesOf bundle) (namesOf bundle) cs valid slip lines in
-          let breaks = wrong-breaks (entitiesOf bundle) (namesOf bundle) cs valid slip lines least l (is .hit l) in
-          rw add-one (row10 (record { breaks = breaks; lowest = λ j k b. told j b (is .missed j k) }))
-
-      unsaid : lines ≤ least → (place : ℕ) → OwnRow bundle D A r slip 10 place → ⊥
-      unsaid l place (row10 {i} f) =
-          let (inside, _) = line-at slip lines i (f .breaks .broken) (f .breaks .there) in
-          breaks-told (entitiesOf bundle) (namesOf bundle) cs valid slip lines i (f .breaks) (missed l i inside)
-
-  -- 9: the length
-  length-stage : Clear bundle D A r slip 9 → Outcome bundle D A r slip (checkSlip cs (A · r) D slip)
-  length-stage =
-      stage bundle D A r slip 9 0 (omega arith) (length-refused cs (A · r) D slip) wrong
-      (length-passed cs (A · r) D slip) unsaid (either (slipLengthWrong (length slip))) (λ _. lines-stage)
-    where
-      wrong : slipLengthWrong (length slip) ≡ true → OwnRow bundle D A r slip 9 0
-      wrong w =
-          let n = length slip in
-          let even = eqb (n % 8) 0 in
-          let uneven : not even ≡ true → n % 8 ≡ 0 → ⊥ = λ e. eqb-false (n % 8) 0 (not-true even e) in
-          row9 (⊎-map (eqb-true n 0) (⊎-map (ltb-true 61440 n) uneven) (one-of-three (eqb n 0) (ltb 61440 n) (not even) w))
-
-      unsaid : slipLengthWrong (length slip) ≡ false → (place : ℕ) → OwnRow bundle D A r slip 9 place → ⊥
-      unsaid w place (row9 (inl none)) = omega (arith, slip-length-right (length slip) w)
-      unsaid w place (row9 (inr (inl long))) = omega (arith, slip-length-right (length slip) w)
-      unsaid w place (row9 (inr (inr uneven))) = uneven (omega (arith, slip-length-right (length slip) w))
-
-  -- 7: the question; 8 is not the checker's
-  question-stage : Clear bundle D A r slip 7 → Outcome bundle D A r slip (checkOf bundle D A r slip)
-  question-stage =
-      let E = entitiesOf bundle in
-      let R = namesOf bundle in
-      let N = recordsOf bundle in
-      stage bundle D A r slip 7 0 (omega arith) (question-refused bundle D A r slip E R N h) wrong
-      (λ w. question-passed bundle D A r slip E R N h _ w refl) unsaid (either (questionWrong E R D A r))
-      (λ _ clear. length-stage (clear-more bundle D A r slip 8 (omega arith) clear (λ place x. own-range x .2 refl)))
-    where
-      wrong : questionWrong (entitiesOf bundle) (namesOf bundle) D A r ≡ true → OwnRow bundle D A r slip 7 0
-      wrong w =
-          let E = entitiesOf bundle in
-          let R = namesOf bundle in
-          let which = one-of-three (outside E D) (outside E A) (outside R r) w in
-          row7 (⊎-map (outside-told E D) (⊎-map (outside-told E A) (outside-told R r)) which)
-
-      unsaid : questionWrong (entitiesOf bundle) (namesOf bundle) D A r ≡ false → (place : ℕ) → OwnRow bundle D A r slip 7 place → ⊥
-      unsaid w place (row7 o) =
-          let (people, name) = or-false (outside (entitiesOf bundle) D || outside (entitiesOf bundle) A) (outside (namesOf bundle) r) w in
-          let (member, issuer) = or-false (outside (entitiesOf bundle) D) (outside (entitiesOf bundle) A) people in
-          ⊎-elim (not-outside _ D member) (⊎-elim (not-outside _ A issuer) (not-outside _ r name)) o
-
--- The answer.
-
-outcome : (bundle : List ℕ) (D A r : ℕ) (slip : List ℕ) → Outcome bundle D A r slip (checkOf bundle D A r slip)
-outcome bundle D A r slip = from (readOf bundle) refl
-  where
-    from : (x : Reading) → readOf bundle ≡ x → Outcome bundle D A r slip (checkOf bundle D A r slip)
-    from (reading.Refused number place) e = reader-due bundle D A r slip e
-    from (reading.Accepted E R N) e =
-        let (entities, names, records, none) = reader-accepted-due bundle E R N .0 e in
-        question-stage bundle D A r slip (cc) (clear none)
+    -- the tests of a slip tell its rows, in their order
+    pub slip-told : Told (slipRows book ρ D slip) (first (slipTests book ρ D slip))
+    unfolding slipTests lineTests lastTests
+    slip-told =
+        told-more (test 9 (zeroIf (slipLengthWrong (length slip)))) (lineTests book ρ D slip) _ _ refl (zero-finds _ (length-tells (length slip)))
+        (λ _. told-more (test 10 (lowestFromOne (lineWrong book slip) (length slip / 8))) (lastTests book ρ D slip) _ _ refl lines-find
+        (λ none. told-more (test 11 (zeroIf (not (lastStates book ρ D slip (length slip / 8))))) [] _ _ refl
+        (zero-finds _ (last-tells (unbroken none))) (λ _. none-due tt)))
       where
-        clear : ((number : ℕ) → ReaderApplies bundle number → ⊥) → Clear bundle D A r slip 7
-        clear none lower l (place, reader x) = none lower (place, x)
-        clear none lower l (place, own x) = omega (arith, own-range x)
+        unbroken : ((place : ℕ) × FromOne (FirstBroken book (linesIn slip)) place → ⊥) → Missed (lineWrong book slip) (length slip / 8)
+        unbroken none = none-missed _ _ (λ k a. none (suc k, (k, refl, broken-lowest k .0 a)))
 
-apart : {number place n : ℕ} → Refused number place ≡ Accepted n → ⊥
-apart e = let z : _≡_ {A = ℕ} 0 1 = cc in omega arith
+-- The whole answer.
 
-module _ (bundle : List ℕ) (D A r : ℕ) (slip : List ℕ) where
-  pub refused-due : (number place : ℕ) → (checkOf bundle D A r slip ≡ Refused number place) ↔ Due bundle D A r slip number place
-  refused-due number place = (due (outcome bundle D A r slip), given (outcome bundle D A r slip))
+module _ (bundle : List ℕ) (q : Question) (slip : List ℕ) where
+  -- the rows behind the reader's
+  abbrev pub later : List Row
+  later = questionRow bundle q ∷ slipRows (bookIn bundle) (roleAsked q) (q .person) slip
+
+  pub checker-numbers : AllNumbered (checkerRows bundle q slip)
+  checker-numbers = numbered-both (readerRows bundle) later (reader-numbers bundle) (omega arith, (omega arith, (omega arith, (omega arith, tt))))
+
+  pub checker-places : AllOnePlace (checkerRows bundle q slip)
+  checker-places =
+      one-place-both (readerRows bundle) later (reader-places bundle)
+      (zero-place _, (zero-place _, (from-one-place _ (broken-place (bookIn bundle) (linesIn slip)), (zero-place _, tt))))
+
+  -- the reader's refusal
+  pub reader-refused : (n p : ℕ) → Reads bundle (reading.Refused n p) → Checks bundle q slip (Refused n p)
+  reader-refused n p r = refused (due-first (readerRows bundle) later n p (reads-refused bundle n p r)) refl
+
+  module _ (s : Sizes) (h : Accepts bundle s) where
+    -- the question's
+    pub question-refused : questionWrong (s .entities) (s .names) q ≡ true → Checks bundle q slip (Refused 7 0)
+    question-refused w =
+        refused (due-later (readerRows bundle) later 7 0 (h .clear) (inl (refl, question-applies bundle s q h w))) refl
+
+    told-slip : Told (slipRows (bookIn bundle) (roleAsked q) (q .person) slip) (first (slipTests (bookIn bundle) (roleAsked q) (q .person) slip))
+    told-slip = let sound = holding-sound bundle s h in slip-told _ _ _ (sound .valid) (bookIn bundle) (sound .numbered .only) slip (roleAsked q) (q .person)
+
+    -- what the tests of the slip give
+    pub slip-answered : (answer : Checked) → questionWrong (s .entities) (s .names) q ≡ false
+        → answer ≡ checkBy slip (slipTests (bookIn bundle) (roleAsked q) (q .person) slip) → Checks bundle q slip answer
+    unfolding checkBy
+    slip-answered answer w e = rw e (by (first (slipTests (bookIn bundle) (roleAsked q) (q .person) slip)) told-slip)
+      where
+        by : (x : Refusal) → Told (slipRows (bookIn bundle) (roleAsked q) (q .person) slip) x → Checks bundle q slip (checkedFor slip x)
+        by (given n p) (due d) =
+            refused (due-later (readerRows bundle) later n p (h .clear) (inr (question-clear bundle s q h w, d))) refl
+        by clear (none-due c) =
+            passed refl refl (clear-both (readerRows bundle) later (h .clear) (question-clear bundle s q h w, c)) refl
+
+  -- the computed answer keeps the promise
+  pub checks : Checks bundle q slip (checkingOf bundle q slip)
+  unfolding checkAfter
+  checks = by (readOf bundle) (reads bundle)
     where
-      due : {answer : Checked} → Outcome bundle D A r slip answer → answer ≡ Refused number place → Due bundle D A r slip number place
-      due (refused d) e = subst₂ (Due bundle D A r slip) (cc) (cc) d
-      due (passed none) e = absurd (apart (sym e))
+      by : (r : Reading) → Reads bundle r → Checks bundle q slip (checkAfter r bundle q slip)
+      by (reading.Refused n p) r = reader-refused n p r
+      by (reading.Accepted s) r = after (questionWrong (s .entities) (s .names) q) refl
+        where
+          accepts : Accepts bundle s
+          accepts = reads-accepted bundle s r
 
-      given : {answer : Checked} → Outcome bundle D A r slip answer → Due bundle D A r slip number place → answer ≡ Refused number place
-      given (refused d) x = cc (due-number bundle D A r slip d x, due-place bundle D A r slip d x)
-      given (passed none) x = absurd (none number (place, x .row))
+          after : (w : Bool) → questionWrong (s .entities) (s .names) q ≡ w
+              → Checks bundle q slip (cond w (Refused 7 0) (checkBy slip (slipTests (bookIn bundle) (roleAsked q) (q .person) slip)))
+          after true e = question-refused s accepts e
+          after false e = slip-answered s accepts _ e refl
 
-  pub accepted-due : (n : ℕ) → (checkOf bundle D A r slip ≡ Accepted n)
-      ↔ ((n ≡ length slip / 8) × ((number : ℕ) → Applies bundle D A r slip number → ⊥))
-  accepted-due n = (due (outcome bundle D A r slip), given (outcome bundle D A r slip))
-    where
-      due : {answer : Checked} → Outcome bundle D A r slip answer → answer ≡ Accepted n
-          → (n ≡ length slip / 8) × ((number : ℕ) → Applies bundle D A r slip number → ⊥)
-      due (refused d) e = absurd (apart e)
-      due (passed none) e = (cc, none)
+  -- where no row on the slip applies it shows what is asked, and the other way round
+  module _ (s : Sizes) (h : Accepts bundle s) where
+    pub clear-slip : Clear (slipRows (bookIn bundle) (roleAsked q) (q .person) slip)
+        → (1 ≤ length slip / 8) × (length slip / 8 ≤ 7680) × (length slip ≡ 8 * (length slip / 8))
+        × SlipFor (bookIn bundle) (roleAsked q) (q .person) (linesOf slip (length slip / 8))
+    clear-slip (length-none, (line-none, (last-none, _))) =
+        let sound = holding-sound bundle s h in
+        let none-wrong : Missed (lineWrong (bookIn bundle) slip) (length slip / 8) =
+        none-missed _ _
+        (λ k a. line-none (suc k, (k, refl, broken-lowest _ _ _ (sound .valid) (bookIn bundle) (sound .numbered .only) slip k .0 a))) in
+        let right = all-right _ _ _ (sound .valid) (bookIn bundle) (sound .numbered .only) slip .0 none-wrong in
+        let (some-line, most-lines, size) = slip-length-right (length slip) (not-true-false _ (λ w. length-none (0, (refl, length-tells (length slip) .0 w)))) in
+        (some-line, most-lines, size, record { right = right; last = by (lastStates (bookIn bundle) (roleAsked q) (q .person) slip (length slip / 8)) refl right })
+      where
+        by : (w : Bool) → lastStates (bookIn bundle) (roleAsked q) (q .person) slip (length slip / 8) ≡ w → RightSlip (bookIn bundle) (linesIn slip)
+            → Says (bookIn bundle) (linesIn slip) (length (linesIn slip)) (roleAsked q ∋ q .person)
+        by true e right = last-right (bookIn bundle) slip (length slip / 8) (roleAsked q) (q .person) .0 e
+        by false e right =
+            absurd (last-none (0, (refl, (right, λ says. clash-flag (last-right (bookIn bundle) slip (length slip / 8) (roleAsked q) (q .person) .1 says) e))))
 
-      given : {answer : Checked} → Outcome bundle D A r slip answer
-          → (n ≡ length slip / 8) × ((number : ℕ) → Applies bundle D A r slip number → ⊥) → answer ≡ Accepted n
-      given (refused {number} {place} d) (same, none) = absurd (none number (place, d .row))
-      given (passed _) (same, none) = cc
+    pub slip-clear : (n : ℕ) → 1 ≤ n → n ≤ 7680 → length slip ≡ 8 * n → SlipFor (bookIn bundle) (roleAsked q) (q .person) (linesOf slip n)
+        → Clear (slipRows (bookIn bundle) (roleAsked q) (q .person) slip)
+    slip-clear n some-line most-lines size shown =
+        let sound = holding-sound bundle s h in
+        let lines : length slip / 8 ≡ n = omega arith in
+        let all : SlipFor (bookIn bundle) (roleAsked q) (q .person) (linesOf slip (length slip / 8)) = rw lines shown in
+        let missed = all-right _ _ _ (sound .valid) (bookIn bundle) (sound .numbered .only) slip .1 (all .right) in (
+          λ (_, (_, w)). ⊎-elim (λ z. omega arith) (⊎-elim (λ l. omega arith) (λ uneven. uneven (omega arith))) w,
+          (
+            λ (_, (k, _, b)). missed-no _ _ k missed (broken-lowest _ _ _ (sound .valid) (bookIn bundle) (sound .numbered .only) slip k .1 b),
+            (λ (_, (_, (_, other))). other (all .last), tt),
+          ),
+        )
+
+  -- a slip of no lines is not accepted
+  some-lines : Clear (checkerRows bundle q slip) → 0 ≡ length slip / 8 → ⊥
+  some-lines c e =
+      let accepts : Accepts bundle (sizesIn bundle) = record { clear = clear-first (readerRows bundle) later c; said = refl } in
+      omega (arith, clear-slip (sizesIn bundle) accepts (clear-later (readerRows bundle) later c .1) .0)
+
+  -- two answers that keep the promise are equal
+  pub answers-equal : (one two : Checked) → Checks bundle q slip one → Checks bundle q slip two → one ≡ two
+  answers-equal (Accepted m) (Accepted n) (passed _ _ c e) (passed _ _ d f) = ap Accepted (e ∙ sym f)
+  answers-equal (Accepted m) two (refused d k) p = absurd (omega (arith, due-number (checkerRows bundle q slip) checker-numbers 0 0 d))
+  answers-equal (Accepted m) (Accepted n) (passed _ _ c e) (refused d k) =
+      absurd (omega (arith, due-number (checkerRows bundle q slip) checker-numbers 0 0 d))
+  answers-equal (Accepted m) (Refused n p) (passed _ _ c e) (refused d k) = absurd (due-clear (checkerRows bundle q slip) n p c d)
+  answers-equal (Accepted m) (Refused n p) (passed _ _ c e) (passed _ _ _ f) = absurd (some-lines c f)
+  answers-equal (Refused n p) two (passed _ _ c e) t = absurd (some-lines c e)
+  answers-equal (Refused n p) (Accepted m) (refused d k) (refused e l) =
+      absurd (omega (arith, due-number (checkerRows bundle q slip) checker-numbers 0 0 e))
+  answers-equal (Refused n p) (Accepted m) (refused d k) (passed _ _ c e) = absurd (due-clear (checkerRows bundle q slip) n p c d)
+  answers-equal (Refused n p) (Refused m o) (refused d k) (refused e l) =
+      let (same, place) = due-unique (checkerRows bundle q slip) checker-places n p m o d e in
+      cc
+  answers-equal (Refused n p) (Refused m o) (refused d k) (passed _ _ c e) = absurd (some-lines c e)

@@ -7,9 +7,10 @@ use mathlib.Core.List.{List, [], _∷_, map}
 use lib.ListN.{getElem?}
 use lib.Dec.{eqb}
 use Rattle.rt0.specs.Credential.{_·_, entity, role, link, intersection, Credential, _⟵_}
-use Rattle.rt0.specs.Slip.{item, Line, line, Fact, _∋_, stated}
+use Rattle.rt0.specs.Book.{Book, item}
+use Rattle.rt0.specs.Slip.{Line, line, Fact, _∋_, stated}
 use Rattle.rt0.specs.Bytes.{lineFrom, linesOf}
-use Rattle.bundle.specs.Lowest.{anyBelow}
+use Rattle.base.specs.Lowest.{anyBelow}
 
 -- what is stated is this fact
 abbrev pub sameFact : Option Fact → Fact → Bool
@@ -53,16 +54,16 @@ misses none found p = not (eqb p 0)
 misses (some f) found p = not (sameFact found f)
 
 -- premise j of a line is wrong, given the earlier lines
-unfoldable pub premiseWrong : List Credential → List Line → Line → ℕ → Bool
-premiseWrong cs earlier (line D c p q s) j =
-    let X = memberOf (stated cs (item earlier p)) in
+unfoldable pub premiseWrong : Book → List Line → Line → ℕ → Bool
+premiseWrong book earlier (line D c p q s) j =
+    let X = memberOf (stated book (item earlier p)) in
     let n = premiseOf (line D c p q s) j in
-    useless (item cs c) D || misses (wantedAt (item cs c) D X j) (stated cs (item earlier n)) n
+    useless (book c) D || misses (wantedAt (book c) D X j) (stated book (item earlier n)) n
 
 -- premise j of line i is wrong, both counted from 0
-abbrev pub premiseWrongAt : List Credential → List ℕ → ℕ → ℕ → Bool
-premiseWrongAt cs slip i j = premiseWrong cs (linesOf slip i) (lineFrom slip (8 * i)) j
+abbrev pub premiseWrongAt : Book → List ℕ → ℕ → ℕ → Bool
+premiseWrongAt book slip i j = premiseWrong book (linesOf slip i) (lineFrom slip (8 * i)) j
 
 -- line i, counted from 0, is wrong: one of its three premises is
-unfoldable pub lineWrong : List Credential → List ℕ → ℕ → Bool
-lineWrong cs slip i = anyBelow (premiseWrongAt cs slip i) 3
+unfoldable pub lineWrong : Book → List ℕ → ℕ → Bool
+lineWrong book slip i = anyBelow (premiseWrongAt book slip i) 3

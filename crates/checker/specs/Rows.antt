@@ -1,62 +1,71 @@
--- The rows of the table of refusals that the checker gives, 1 to 7 and 9 to 11: when each applies to a bundle, a question and a slip,
--- and at which place. Rows 1 to 6 are the reader's. A line breaks the slip's rules where it is not right by RT0's definition.
-use Prim.Native.Nat.{ℕ, suc, _/_, _%_, _<_}
+-- The checker's table of refusals, in the paper's order: the reader's rows, the question's, and its own, 9 to 11, on the slip. A line breaks
+-- the slip's rules where it is not right by RT0's definition. And what an answer of the checker comes to by it, in the paper's numbers.
+use Prim.Native.Nat.{ℕ, _/_, _%_, _<_}
 use mathlib.Core.Path.{_≡_}
 use mathlib.Core.Logic.{_⊎_}
 use mathlib.Core.Option.{some}
-use mathlib.Core.List.{List}
+use mathlib.Core.List.{List, [], _∷_, _++_}
 use lib.ListN.{length, take, getElem?}
-use Rattle.rt0.specs.Credential.{_·_, Credential}
+use Rattle.rt0.specs.Credential.{Role}
+use Rattle.rt0.specs.Book.{Book}
 use Rattle.rt0.specs.Slip.{Line, _∋_, Says, RightLine, RightSlip}
 use Rattle.rt0.specs.Bytes.{linesOf}
-use Rattle.bundle.specs.Layout.{entitiesOf, namesOf, recordsOf}
-use Rattle.bundle.specs.Record.{credentials}
-use Rattle.bundle.specs.Rows.{Row as ReaderRow}
+use Rattle.base.specs.Refusals.{Row, row, AtZero, FromOne, Judged}
+use Rattle.bundle.specs.declared.question.Question.{Question}
+use Rattle.bundle.specs.Rows.{readerRows}
+use Rattle.bundle.specs.Held.{bookIn}
+use Rattle.bundle.specs.Question.{roleAsked, questionRow}
+use Rattle.checker.specs.declared.check.Checked.{Checked}
+use Rattle.checker.specs.declared.check.Checked.the-variants.{Accepted, Refused}
 
--- the credentials of a bundle, and the lines of a slip
-abbrev pub held : List ℕ → List Credential
-held bundle = credentials bundle (recordsOf bundle)
-
+-- the lines of a slip
 abbrev pub linesIn : List ℕ → List Line
 linesIn slip = linesOf slip (length slip / 8)
 
--- a number is 0 or above the most
-abbrev pub Outside : ℕ → ℕ → Type 0
-Outside most b = (b ≡ 0) ⊎ (most < b)
+-- slip length is 0, above 61,440 or no multiple of 8
+abbrev pub SlipLengthWrong : ℕ → Type 0
+SlipLengthWrong n = (n ≡ 0) ⊎ ((61440 < n) ⊎ (n % 8 ≡ 0 → ⊥))
 
 -- line i, counted from 0, breaks the slip's rules
-pub record Breaks (cs : List Credential) (lines : List Line) (i : ℕ) : Type 0 where
+pub record Breaks (book : Book) (lines : List Line) (i : ℕ) : Type 0 where
   pub broken : Line
   pub there : getElem? lines i ≡ some broken
-  pub wrong : RightLine cs (take i lines) broken → ⊥
+  pub wrong : RightLine book (take i lines) broken → ⊥
 
 -- it is the lowest such line
-pub record FirstBroken (cs : List Credential) (lines : List Line) (i : ℕ) : Type 0 where
-  pub breaks : Breaks cs lines i
-  pub lowest : (j : ℕ) → j < i → Breaks cs lines j → ⊥
+pub record FirstBroken (book : Book) (lines : List Line) (i : ℕ) : Type 0 where
+  pub breaks : Breaks book lines i
+  pub lowest : (j : ℕ) → j < i → Breaks book lines j → ⊥
 
--- the checker's own rows by their number and place
-pub data OwnRow (bundle : List ℕ) (D A r : ℕ) (slip : List ℕ) : ℕ → ℕ → Type 0 where
-  -- D, A above E or 0; r above R or 0
-  row7 : Outside (entitiesOf bundle) D ⊎ (Outside (entitiesOf bundle) A ⊎ Outside (namesOf bundle) r) → OwnRow bundle D A r slip 7 0
-  -- slip length is 0, above 61,440 or no multiple of 8
-  row9 : (length slip ≡ 0) ⊎ ((61440 < length slip) ⊎ (length slip % 8 ≡ 0 → ⊥)) → OwnRow bundle D A r slip 9 0
-  -- a line breaks the slip's rules; the lowest such line, numbered from 1
-  row10 : {i : ℕ} → FirstBroken (held bundle) (linesIn slip) i → OwnRow bundle D A r slip 10 (suc i)
-  -- all lines right, the last states another fact
-  row11 : RightSlip (held bundle) (linesIn slip) → (Says (held bundle) (linesIn slip) (length (linesIn slip)) (A · r ∋ D) → ⊥)
-      → OwnRow bundle D A r slip 11 0
+-- the rows on a slip that is to state, by the numbers of a book, that D is in ρ
+abbrev pub slipRows : Book → Role → ℕ → List ℕ → List Row
+slipRows book ρ D slip =
+    row 9 (AtZero (SlipLengthWrong (length slip)))
+    -- a line breaks the slip's rules; the lowest such line
+    ∷ row 10 (FromOne (FirstBroken book (linesIn slip)))
+    -- all lines right, the last states another fact
+    ∷ row 11 (AtZero (RightSlip book (linesIn slip) × (Says book (linesIn slip) (length (linesIn slip)) (ρ ∋ D) → ⊥)))
+    ∷ []
 
--- all rows, with the reader's, 1 to 6; no other number has one
-pub data Row (bundle : List ℕ) (D A r : ℕ) (slip : List ℕ) (number place : ℕ) : Type 0 where
-  reader : ReaderRow bundle number place → Row bundle D A r slip number place
-  own : OwnRow bundle D A r slip number place → Row bundle D A r slip number place
+-- all rows
+abbrev pub checkerRows : List ℕ → Question → List ℕ → List Row
+checkerRows bundle q slip = readerRows bundle ++ (questionRow bundle q ∷ slipRows (bookIn bundle) (roleAsked q) (q .person) slip)
 
--- a number's row says so at some place
-abbrev pub Applies : List ℕ → ℕ → ℕ → ℕ → List ℕ → ℕ → Type 0
-Applies bundle D A r slip number = (place : ℕ) × Row bundle D A r slip number place
+-- the paper's number, place and lines of an answer
+abbrev pub numberOf : Checked → ℕ
+numberOf (Accepted lines) = 0
+numberOf (Refused number place) = number
 
--- the refusal with this number and place is due: its row says so, and no lower number applies
-pub record Due (bundle : List ℕ) (D A r : ℕ) (slip : List ℕ) (number place : ℕ) : Type 0 where
-  pub row : Row bundle D A r slip number place
-  pub first : (lower : ℕ) → lower < number → Applies bundle D A r slip lower → ⊥
+abbrev pub placeOf : Checked → ℕ
+placeOf (Accepted lines) = 0
+placeOf (Refused number place) = place
+
+abbrev pub linesNumber : Checked → ℕ
+linesNumber (Accepted lines) = lines
+linesNumber (Refused number place) = 0
+
+-- this is the checker's answer to a bundle, a question and a slip: the refusal that is due, or, where no row applies, acceptance with the
+-- number of lines
+abbrev pub Checks : List ℕ → Question → List ℕ → Checked → Type 0
+Checks bundle q slip c =
+    Judged (checkerRows bundle q slip) (numberOf c) (placeOf c) (linesNumber c ≡ 0) (linesNumber c ≡ length slip / 8)

@@ -1,39 +1,42 @@
 // The checker's answer: the reader's refusal, or the question's, or the slip's, or acceptance with the number of lines.
 ghost use mathlib.Core.Path.{_≡_};
 ghost use Prim.Native.Nat.{_≤_};
-ghost use Rattle.rt0.specs.Credential.{_·_};
-ghost use Rattle.bundle.specs.Record.{credentials};
-ghost use Rattle.bundle.specs.Lowest.{lowest};
+ghost use Rattle.base.specs.Lowest.{lowest};
+ghost use Rattle.bundle.specs.Rows.{Accepts};
+ghost use Rattle.bundle.specs.Held.{bookIn};
+ghost use Rattle.bundle.specs.Question.{question as ask, roleAsked};
 ghost use Rattle.checker.specs.Premise.{lineWrong};
-ghost use Rattle.checker.specs.Claim.{Holds};
-ghost use Rattle.checker.specs.Checking.{checkSlip, checkOf};
+ghost use Rattle.checker.specs.Rows.{Checks};
+ghost use Rattle.checker.specs.Checking.{checkBy, slipTests};
 use crate::claim::same;
 use crate::line::Line;
 use crate::line::broken;
 use crate::line::stated;
-use bundle::access::Role;
-use bundle::layout::outside;
+use bundle::question::Question;
+use bundle::question::question_wrong;
 use bundle::read::Reading;
+use bundle::read::Sizes;
 use bundle::read::read;
+use records::form::Role;
 
 // What the checker answers.
 pub enum Checked {
     // Every line is right, and the last states the question's fact.
     Accepted { lines: u16 },
-    // The first refusal that applies, at its lowest place.
+    // The first refusal that applies, at its place.
     Refused { number: u8, place: u16 },
 }
 
 // The first line, counted from 0, that is wrong, whichever premise shows it; or the number of lines.
-fn first_broken(bundle: &[u8], records: usize, slip: &[u8], lines: usize) -> usize
-    requires { ⌜ Holds (now bundle) records × (lines ≤ 7680) ⌝ }
-    ensures { λ r. ⌜ r ≡ lowest (lineWrong (credentials (now (bundle .entry)) records) (now (slip .entry))) lines ⌝ }
+fn first_broken(bundle: &[u8], sizes: Sizes, slip: &[u8], lines: usize) -> usize
+    requires { ⌜ Accepts (now bundle) sizes × (lines ≤ 7680) ⌝ }
+    ensures { λ r. ⌜ r ≡ lowest (lineWrong (bookIn (now (bundle .entry))) (now (slip .entry))) lines ⌝ }
 {
     let mut i: usize = 0;
     'lines: while i < lines {
         let mut j: usize = 0;
         while j < Line::PREMISES {
-            if broken(bundle, records, slip, i, j) {
+            if broken(bundle, sizes, slip, i, j) {
                 break 'lines;
             }
             j += 1;
@@ -43,10 +46,11 @@ fn first_broken(bundle: &[u8], records: usize, slip: &[u8], lines: usize) -> usi
     i
 }
 
-// The answer for a bundle that is read and a question in range: whether the slip shows that d is in a.r.
-fn check_slip(bundle: &[u8], records: usize, d: usize, a: usize, r: usize, slip: &[u8]) -> Checked
-    requires { ⌜ Holds (now bundle) records ⌝ }
-    ensures { λ out. ⌜ out ≡ checkSlip (credentials (now (bundle .entry)) records) (a · r) d (now (slip .entry)) ⌝ }
+// The answer for a bundle that is read and a question in range: whether the slip shows what is asked.
+fn check_slip(bundle: &[u8], sizes: Sizes, question: Question, slip: &[u8]) -> Checked
+    requires { ⌜ Accepts (now bundle) sizes ⌝ }
+    ensures { λ out. ⌜ out ≡ checkBy (now (slip .entry))
+        (slipTests (bookIn (now (bundle .entry))) (roleAsked question) (question .person) (now (slip .entry))) ⌝ }
 {
     let size = slip.len();
     if (size == 0) | (Line::SIZE * Line::MOST < size) | (size % Line::SIZE != 0) {
@@ -56,15 +60,19 @@ fn check_slip(bundle: &[u8], records: usize, d: usize, a: usize, r: usize, slip:
         };
     }
     let lines = size / Line::SIZE;
-    let i = first_broken(bundle, records, slip, lines);
+    let i = first_broken(bundle, sizes, slip, lines);
     if i < lines {
         return Checked::Refused {
             number: 10,
             place: (i + 1) as u16,
         };
     }
-    let last = stated(bundle, records, slip, lines, lines);
-    if !same(last, Role { entity: a, name: r }, d) {
+    let last = stated(bundle, sizes, slip, lines, lines);
+    let role = Role {
+        entity: question.entity,
+        name: question.name,
+    };
+    if !same(last, role, question.person) {
         return Checked::Refused {
             number: 11,
             place: 0,
@@ -77,24 +85,15 @@ fn check_slip(bundle: &[u8], records: usize, d: usize, a: usize, r: usize, slip:
 
 // The answer to every bundle, question and slip.
 pub fn check(bundle: &[u8], d: u8, a: u8, r: u8, slip: &[u8]) -> Checked
-    ensures { λ out. ⌜ out ≡ checkOf (now (bundle .entry)) d a r (now (slip .entry)) ⌝ }
+    ensures { λ out. ⌜ Checks (now (bundle .entry)) (ask d a r) (now (slip .entry)) out ⌝ }
 {
     let reading = read(bundle);
-    let Reading::Accepted {
-        entities,
-        names,
-        records,
-    } = reading
-    else {
+    let Reading::Accepted(sizes) = reading else {
         match reading {
             Reading::Refused { number, place } => {
                 return Checked::Refused { number, place };
             }
-            Reading::Accepted {
-                entities: _,
-                names: _,
-                records: _,
-            } => {
+            Reading::Accepted(_) => {
                 return Checked::Refused {
                     number: 0,
                     place: 0,
@@ -102,19 +101,16 @@ pub fn check(bundle: &[u8], d: u8, a: u8, r: u8, slip: &[u8]) -> Checked
             }
         }
     };
-    let most = entities as usize;
-    if outside(most, d as usize) | outside(most, a as usize) | outside(names as usize, r as usize) {
+    let question = Question {
+        person: d as usize,
+        entity: a as usize,
+        name: r as usize,
+    };
+    if question_wrong(sizes.entities, sizes.names, question) {
         return Checked::Refused {
             number: 7,
             place: 0,
         };
     }
-    check_slip(
-        bundle,
-        records as usize,
-        d as usize,
-        a as usize,
-        r as usize,
-        slip,
-    )
+    check_slip(bundle, sizes, question, slip)
 }

@@ -1,11 +1,13 @@
 // A claim, that a member is in a role: what a line of a slip states, and what a premise has to state.
 ghost use mathlib.Core.Path.{_≡_};
 ghost use Rattle.rt0.specs.Slip.{_∋_, factOf};
-ghost use Rattle.bundle.specs.Access.{credentialOf, roleOf};
+ghost use Rattle.records.specs.Form.{credentialOf, roleOf};
 ghost use Rattle.checker.specs.Premise.{sameFact, memberOf};
 ghost use Rattle.checker.specs.Claim.{factIn, pickClaim};
-use bundle::access::Record;
-use bundle::access::Role;
+use records::form::Head;
+use records::form::Record;
+use records::form::Role;
+use records::form::head_of;
 
 // That a member is in a role, or nothing.
 pub enum Claim {
@@ -17,26 +19,9 @@ pub enum Claim {
 pub(crate) fn stated_by(credential: Record, member: usize) -> Claim
     ensures { λ r. ⌜ factIn r ≡ factOf member (credentialOf credential) ⌝ }
 {
-    match credential {
-        Record::Entity { head, entity: _ } => Claim::That(head, member),
-        Record::Role { head, role: _ } => Claim::That(head, member),
-        Record::Link {
-            head,
-            first: _,
-            second: _,
-        } => Claim::That(head, member),
-        Record::TwoParts {
-            head,
-            one: _,
-            two: _,
-        } => Claim::That(head, member),
-        Record::ThreeParts {
-            head,
-            one: _,
-            two: _,
-            three: _,
-        } => Claim::That(head, member),
-        Record::Nothing => Claim::Nothing,
+    match head_of(credential) {
+        Head::Of(head) => Claim::That(head, member),
+        Head::Nothing => Claim::Nothing,
     }
 }
 

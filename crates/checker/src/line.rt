@@ -4,22 +4,25 @@ ghost use Prim.Native.Nat.{_*_, _<_, _≤_};
 ghost use mathlib.Core.List.{[], _∷_};
 ghost use lib.ListN.{getElem?};
 ghost use Rattle.rt0.specs.Credential.{_·_};
-ghost use Rattle.rt0.specs.Slip.{item, _∋_, stated as statedOf};
+ghost use Rattle.rt0.specs.Book.{item};
+ghost use Rattle.rt0.specs.Slip.{_∋_, stated as statedOf};
 ghost use Rattle.rt0.specs.Bytes.{lineFrom, linesOf};
-ghost use Rattle.bundle.specs.Record.{credentials};
-ghost use Rattle.bundle.specs.Access.{credentialOf};
+ghost use Rattle.records.specs.Form.{credentialOf};
+ghost use Rattle.bundle.specs.Rows.{Accepts};
+ghost use Rattle.bundle.specs.Held.{bookIn};
 ghost use Rattle.checker.specs.Premise.{useless as uselessOf, premiseOf, wantedAt, premiseWrongAt};
-ghost use Rattle.checker.specs.Claim.{factIn, Holds};
+ghost use Rattle.checker.specs.Claim.{factIn};
 use crate::claim::Claim;
 use crate::claim::member_of;
 use crate::claim::pick;
 use crate::claim::same;
 use crate::claim::stated_by;
-use bundle::access::Record;
-use bundle::access::Role;
+use base::byte;
+use base::outside;
 use bundle::access::record_at;
-use bundle::block::byte;
-use bundle::layout::outside;
+use bundle::read::Sizes;
+use records::form::Record;
+use records::form::Role;
 
 // The sizes and places of a slip's lines.
 pub struct Line;
@@ -42,27 +45,27 @@ pub(crate) fn premise(slip: &[u8], i: usize, j: usize) -> usize
 }
 
 // The credential of a number, from 1 to the number of records.
-pub(crate) fn credential(bundle: &[u8], records: usize, number: usize) -> Record
-    requires { ⌜ Holds (now bundle) records ⌝ }
-    ensures { λ r. ⌜ credentialOf r ≡ item (credentials (now (bundle .entry)) records) number ⌝ }
+pub(crate) fn credential(bundle: &[u8], sizes: Sizes, number: usize) -> Record
+    requires { ⌜ Accepts (now bundle) sizes ⌝ }
+    ensures { λ r. ⌜ credentialOf r ≡ bookIn (now (bundle .entry)) number ⌝ }
 {
-    if outside(records, number) {
+    if outside(sizes.records, number) {
         return Record::Nothing;
     }
     record_at(bundle, number)
 }
 
 // What line number p, from 1, of the first so many lines states.
-pub(crate) fn stated(bundle: &[u8], records: usize, slip: &[u8], lines: usize, p: usize) -> Claim
-    requires { ⌜ Holds (now bundle) records × (lines ≤ 7680) ⌝ }
-    ensures { λ r. ⌜ factIn r ≡ statedOf (credentials (now (bundle .entry)) records) (item (linesOf (now (slip .entry)) lines) p) ⌝ }
+pub(crate) fn stated(bundle: &[u8], sizes: Sizes, slip: &[u8], lines: usize, p: usize) -> Claim
+    requires { ⌜ Accepts (now bundle) sizes × (lines ≤ 7680) ⌝ }
+    ensures { λ r. ⌜ factIn r ≡ statedOf (bookIn (now (bundle .entry))) (item (linesOf (now (slip .entry)) lines) p) ⌝ }
 {
     if outside(lines, p) {
         return Claim::Nothing;
     }
     let at = Line::SIZE * (p - 1);
     let number = byte(slip, at + 1);
-    stated_by(credential(bundle, records, number), byte(slip, at))
+    stated_by(credential(bundle, sizes, number), byte(slip, at))
 }
 
 // Whether no line with this member is right by a credential, whatever its premises.
@@ -160,20 +163,20 @@ pub(crate) fn wanted(credential: Record, member: usize, linked: usize, j: usize)
 }
 
 // Whether premise j of line i is wrong.
-pub(crate) fn broken(bundle: &[u8], records: usize, slip: &[u8], i: usize, j: usize) -> bool
-    requires { ⌜ Holds (now bundle) records × (i < 7680) × (j < 3) ⌝ }
-    ensures { λ r. ⌜ r ≡ premiseWrongAt (credentials (now (bundle .entry)) records) (now (slip .entry)) i j ⌝ }
+pub(crate) fn broken(bundle: &[u8], sizes: Sizes, slip: &[u8], i: usize, j: usize) -> bool
+    requires { ⌜ Accepts (now bundle) sizes × (i < 7680) × (j < 3) ⌝ }
+    ensures { λ r. ⌜ r ≡ premiseWrongAt (bookIn (now (bundle .entry))) (now (slip .entry)) i j ⌝ }
 {
     let at = Line::SIZE * i;
     let member = byte(slip, at);
-    let its = credential(bundle, records, byte(slip, at + 1));
+    let its = credential(bundle, sizes, byte(slip, at + 1));
     if useless(its, member) {
         return true;
     }
-    let linked = member_of(stated(bundle, records, slip, i, premise(slip, i, 0)));
+    let linked = member_of(stated(bundle, sizes, slip, i, premise(slip, i, 0)));
     let p = premise(slip, i, j);
     match wanted(its, member, linked, j) {
-        Claim::That(role, who) => !same(stated(bundle, records, slip, i, p), role, who),
+        Claim::That(role, who) => !same(stated(bundle, sizes, slip, i, p), role, who),
         Claim::Nothing => p != 0,
     }
 }

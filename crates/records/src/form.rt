@@ -39,6 +39,12 @@ pub enum Record {
     Nothing,
 }
 
+// The head of a record, if it is one.
+pub enum Head {
+    Of(Role),
+    Nothing,
+}
+
 // The role that two bytes of a record stand for.
 fn role_at(record: &[u8], at: usize) -> Role
     requires { ⌜ at < 12 ⌝ }
@@ -94,29 +100,29 @@ pub fn record_of(record: &[u8]) -> Record
     }
 }
 
-// The head of a record; of nothing, a role that no bundle has.
-pub fn head_of(record: Record) -> Role
+// The head of a record.
+pub fn head_of(record: Record) -> Head
     ensures { λ r. ⌜ r ≡ headOf «record» ⌝ }
 {
     match record {
-        Record::Entity { head, entity: _ } => head,
-        Record::Role { head, role: _ } => head,
+        Record::Entity { head, entity: _ } => Head::Of(head),
+        Record::Role { head, role: _ } => Head::Of(head),
         Record::Link {
             head,
             first: _,
             second: _,
-        } => head,
+        } => Head::Of(head),
         Record::TwoParts {
             head,
             one: _,
             two: _,
-        } => head,
+        } => Head::Of(head),
         Record::ThreeParts {
             head,
             one: _,
             two: _,
             three: _,
-        } => head,
-        Record::Nothing => Role { entity: 0, name: 0 },
+        } => Head::Of(head),
+        Record::Nothing => Head::Nothing,
     }
 }

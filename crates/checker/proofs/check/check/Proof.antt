@@ -1,13 +1,12 @@
 -- `checker::check::check` meets its contract.
-use Prim.Native.Nat.{ℕ}
-use mathlib.Core.Path.{_≡_, sym, _∙_}
-use mathlib.Core.Bool.{Bool, true, false, _||_}
-use borrow.Author.Needs.{needs}
+use mathlib.Core.Path.{sym, _∙_}
+use native.Mathlib.Omega.{arith}
 use denote.Ref.{now}
-use Rattle.bundle.specs.declared.read.Reading.the-variants.{Accepted}
-use Rattle.bundle.specs.Reading.{readOf}
-use Rattle.checker.specs.Checking.{questionWrong}
-use Rattle.checker.proofs.Answers.{reader-refused, question-is, question-refused, question-passed}
+use Rattle.bundle.specs.Rows.{Reads, Accepts}
+use Rattle.bundle.specs.Question.{question}
+use Rattle.bundle.proofs.Refusals.{reads-accepted}
+use Rattle.checker.proofs.Refusals.{reader-refused, question-refused, slip-answered}
+use borrow.Author.Needs.{needs}
 use Rattle.checker.proofs.check.check.Statement.{statement}
 use Rattle.checker.proofs.check.check.Tie as tie
 
@@ -26,64 +25,41 @@ enum-known-reading-3 c = search needs
 returns : tie.Need-returns
 returns c =
     let w = c .before .before .before .before in
-    let read-is = sym (w .before .before .read .ensures) ∙ w .reading2 .given .1 ∙ c .before .reading3 .given .1 in
-    reader-refused (now (w .before .before .before .before .before .args .bundle)) _ _ _ _ _ _ read-is
+    let bytes = now (w .before .before .before .before .before .args .bundle) in
+    let read-is = w .reading2 .given .1 ∙ c .before .reading3 .given .1 in
+    let args = w .before .before .before .before .before .args in
+    reader-refused bytes (question (args .d) (args .a) (args .r)) (now (args .slip)) _ _ (rw read-is at (w .before .before .read .ensures))
 
 enum-told : tie.Need-enum-told
 enum-told c = search needs
 
 returns-2 : tie.Need-returns-2
-returns-2 c = search needs
+returns-2 c = absurd (omega (arith, c .before .match2 .keys2))
 
-cast-most : tie.Need-cast-most
-cast-most c = search needs
+question-wrong-requires : tie.Need-question-wrong-requires
+question-wrong-requires c κs = search needs
 
-outside-requires : tie.Need-outside-requires
-outside-requires c κs = search needs
+-- what the reader accepted
+abbrev start : tie.After-question-wrong → tie.Start
+start c = c .before .before .before .before .before .before .before
 
-outside-requires-2 : tie.Need-outside-requires-2
-outside-requires-2 c κs = search needs
-
-cast-outside : tie.Need-cast-outside
-cast-outside c = search needs
-
-outside-requires-3 : tie.Need-outside-requires-3
-outside-requires-3 c κs = search needs
-
--- What the reader accepted, and whether the question is in range.
-
-abbrev start : tie.After-outside3 → tie.Start
-start c = c .before .before .before .before .before .before .before .before .before
-
-abbrev said : tie.After-outside3 → ℕ × ℕ × ℕ
-said c = let w = c .before .before .before .before .reading .given .0 in (w .0, w .1 .0, w .1 .1 .0)
-
-read-is : (c : tie.After-outside3) → readOf (now (start c .args .bundle)) ≡ Accepted (said c .0) (said c .1) (said c .2)
-read-is c = let w = c .before .before .before .before in sym (w .before .before .read .ensures) ∙ w .reading .given .1
-
-asked : (c : tie.After-outside3) (b : Bool) → (c .before .before .outside .result || c .before .outside2 .result || c .outside3 .result) ≡ b
-    → questionWrong (said c .0) (said c .1) (start c .args .d) (start c .args .a) (start c .args .r) ≡ b
-asked c b e =
-    let args = start c .args in
-    question-is (said c .0) (said c .1) (args .d) (args .a) (args .r) _ _ _ b
-    (c .before .before .outside .ensures) (c .before .outside2 .ensures) (c .outside3 .ensures) e
+accepts : (c : tie.After-question-wrong) → Accepts (now (start c .args .bundle)) (c .before .before .reading .given .0 .0)
+accepts c = reads-accepted _ _ (rw (c .before .before .reading .given .1) at (c .before .before .before .before .read .ensures))
 
 returns-3 : tie.Need-returns-3
 returns-3 c =
-    let w = c .before in
-    question-refused (now (start w .args .bundle)) _ _ _ _ _ _ _ (read-is w) (asked w true (c .if1 .taken))
-
-cast-check-slip : tie.Need-cast-check-slip
-cast-check-slip c = search needs
+    let args = start (c .before) .args in
+    question-refused (now (args .bundle)) _ (now (args .slip)) _ (accepts (c .before))
+    (sym (c .before .question-wrong .ensures) ∙ c .if1 .taken)
 
 check-slip-requires : tie.Need-check-slip-requires
-check-slip-requires c κs = record { entities = _; names = _; read = read-is (c .before) }
+check-slip-requires c κs = accepts (c .before)
 
 returns-4 : tie.Need-returns-4
 returns-4 c =
     let w = c .before .before in
-    question-passed (now (start w .args .bundle)) _ _ _ _ _ _ _ (read-is w) _ (asked w false (c .before .if1 .left))
-    (c .check-slip .ensures)
+    slip-answered (now (start w .args .bundle)) _ (now (start w .args .slip)) _ (accepts w) _
+    (sym (w .question-wrong .ensures) ∙ c .before .if1 .left) (c .check-slip .ensures)
 
 pub check-spec : {M : Type 1} → statement M
 check-spec =
@@ -96,12 +72,7 @@ check-spec =
     returns
     enum-told
     returns-2
-    cast-most
-    outside-requires
-    outside-requires-2
-    cast-outside
-    outside-requires-3
+    question-wrong-requires
     returns-3
-    cast-check-slip
     check-slip-requires
     returns-4)

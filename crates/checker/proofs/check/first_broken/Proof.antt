@@ -2,24 +2,24 @@
 use Prim.Native.Nat.{_-_, _≤_}
 use mathlib.Core.Path.{sym, _∙_}
 use borrow.Author.Needs.{needs}
-use Rattle.bundle.specs.Record.{credentials}
-use Rattle.bundle.proofs.Lowest.{Missed, missed-none, missed-more, lowest-none}
+use Rattle.base.proofs.Lowest.{Missed, missed-none, missed-more, lowest-none}
+use Rattle.bundle.specs.Held.{bookIn}
 use Rattle.checker.specs.Premise.{premiseWrongAt, lineWrong}
 use Rattle.checker.proofs.Lookups.{line-found, line-passed}
 use Rattle.checker.proofs.check.first_broken.Statement.{statement}
 use Rattle.checker.proofs.check.first_broken.Tie as tie
 
 abbrev Inv-loop : tie.InvT-loop
-Inv-loop bundle records slip lines i j₀ j = (j ≤ 3) × Missed (premiseWrongAt (credentials bundle records) slip i) j
+Inv-loop bundle sizes slip lines i j₀ j = (j ≤ 3) × Missed (premiseWrongAt (bookIn bundle) slip i) j
 
 abbrev μ-loop : tie.MeasureT-loop
-μ-loop bundle records slip lines i j₀ j = 3 - j
+μ-loop bundle sizes slip lines i j₀ j = 3 - j
 
 abbrev Inv-lines : tie.InvT-lines
-Inv-lines bundle records slip lines i₀ i = (i ≤ lines) × Missed (lineWrong (credentials bundle records) slip) i
+Inv-lines bundle sizes slip lines i₀ i = (i ≤ lines) × Missed (lineWrong (bookIn bundle) slip) i
 
 abbrev μ-lines : tie.MeasureT-lines
-μ-lines bundle records slip lines i₀ i = lines - i
+μ-lines bundle sizes slip lines i₀ i = lines - i
 
 lines-holds : tie.Need-lines-holds Inv-loop μ-loop Inv-lines μ-lines
 lines-holds c = (search needs, missed-none _)

@@ -1,57 +1,28 @@
 -- `checker::claim::stated_by` meets its contract.
+use mathlib.Core.Path.{sym, _∙_}
+use Rattle.checker.proofs.Lookups.{claim-stated}
 use borrow.Author.Needs.{needs}
 use Rattle.checker.proofs.claim.stated_by.Statement.{statement}
 use Rattle.checker.proofs.claim.stated_by.Tie as tie
 
-enum-known-credential : tie.Need-enum-known-credential
-enum-known-credential c = search needs
+head-of-requires : tie.Need-head-of-requires
+head-of-requires c κs = search needs
 
-enum-known-credential-2 : tie.Need-enum-known-credential-2
-enum-known-credential-2 c = search needs
-
-enum-known-credential-3 : tie.Need-enum-known-credential-3
-enum-known-credential-3 c = search needs
-
-enum-known-credential-4 : tie.Need-enum-known-credential-4
-enum-known-credential-4 c = search needs
-
-enum-known-credential-5 : tie.Need-enum-known-credential-5
-enum-known-credential-5 c = search needs
+enum-known-head : tie.Need-enum-known-head
+enum-known-head c = search needs
 
 enum-told : tie.Need-enum-told
 enum-told c = search needs
 
 returns : tie.Need-returns
-returns c = rw (c .before .credential .given .1)
+returns c =
+    let args = c .before .before .before .before .args in
+    claim-stated (args .credential) _ (args .member) (sym (c .before .head .given .1) ∙ c .before .before .before .head-of .ensures)
 
 returns-2 : tie.Need-returns-2
-returns-2 c = rw (c .before .credential2 .given .1)
-
-returns-3 : tie.Need-returns-3
-returns-3 c = rw (c .before .credential3 .given .1)
-
-returns-4 : tie.Need-returns-4
-returns-4 c = rw (c .before .credential4 .given .1)
-
-returns-5 : tie.Need-returns-5
-returns-5 c = rw (c .before .credential5 .given .1)
-
-returns-6 : tie.Need-returns-6
-returns-6 c = rw (c .enum-told .given .1)
+returns-2 c =
+    let args = c .before .before .before .args in
+    claim-stated (args .credential) _ (args .member) (sym (c .enum-told .given .1) ∙ c .before .before .head-of .ensures)
 
 pub stated-by-spec : {M : Type 1} → statement M
-stated-by-spec =
-    tie.close
-    (tie.spec
-    enum-known-credential
-    enum-known-credential-2
-    enum-known-credential-3
-    enum-known-credential-4
-    enum-known-credential-5
-    enum-told
-    returns
-    returns-2
-    returns-3
-    returns-4
-    returns-5
-    returns-6)
+stated-by-spec = tie.close (tie.spec head-of-requires enum-known-head enum-told returns returns-2)

@@ -1,13 +1,12 @@
 -- `checker::line::broken` meets its contract.
 use mathlib.Core.Path.{_≡_, refl, sym, ap, _∙_}
 use mathlib.Core.Option.{Option}
-use mathlib.Core.List.{List}
 use borrow.Author.Needs.{needs}
 use denote.Ref.{now}
-use Rattle.rt0.specs.Credential.{Credential}
-use Rattle.rt0.specs.Slip.{item, Fact, stated}
+use Rattle.rt0.specs.Book.{Book, item}
+use Rattle.rt0.specs.Slip.{Fact, stated}
 use Rattle.rt0.specs.Bytes.{linesOf}
-use Rattle.bundle.specs.Record.{credentials}
+use Rattle.bundle.specs.Held.{bookIn}
 use Rattle.checker.specs.Claim.{factIn}
 use Rattle.checker.specs.Premise.{misses, premiseWrongAt}
 use Rattle.checker.proofs.Lookups.{premise-useless, premise-judged}
@@ -70,17 +69,17 @@ enum-told c = search needs
 abbrev start : tie.After-wanted → tie.Start
 start c = c .before .before .before .before .before .before .before .before .before .before .before .before
 
-abbrev held : tie.After-wanted → List Credential
-held c = credentials (now (start c .args .bundle)) (start c .args .records)
+abbrev book : tie.After-wanted → Book
+book c = bookIn (now (start c .args .bundle))
 
 judged : (c : tie.After-wanted) (fact found : Option Fact) → fact ≡ factIn (c .wanted .result)
-    → found ≡ stated (held c) (item (linesOf (now (start c .args .slip)) (start c .args .i)) (c .before .premise2 .result))
+    → found ≡ stated (book c) (item (linesOf (now (start c .args .slip)) (start c .args .i)) (c .before .premise2 .result))
     → misses fact found (c .before .premise2 .result)
-    ≡ premiseWrongAt (held c) (now (start c .args .slip)) (start c .args .i) (start c .args .j)
+    ≡ premiseWrongAt (book c) (now (start c .args .slip)) (start c .args .i) (start c .args .j)
 judged c fact found fact-is found-is =
     let p = c .before .before .before .before in
     let w = p .before .before in
-    premise-judged (held c) _ _ _ _ _ _ (start c .args .j) _ _ _
+    premise-judged (book c) _ _ _ _ _ _ (start c .args .j) _ _ _
     (w .before .before .before .byte .ensures .0) (w .before .before .byte2 .ensures .0) (w .before .credential .ensures)
     _ _ _ _ found fact (sym (w .useless .ensures) ∙ p .before .if1 .left)
     (p .premise .ensures) (c .before .before .before .stated .ensures) (c .before .before .member-of .ensures)

@@ -11,8 +11,8 @@ outside-requires c κs = search needs
 
 returns : tie.Need-returns
 returns c =
-    let args = c .before .before .before .args in
-    credential-outside (now (args .bundle)) (args .records) (args .number) (sym (c .before .outside .ensures) ∙ c .if1 .taken)
+    let start = c .before .before .before in
+    credential-outside (now (start .args .bundle)) _ (start .pre) (start .args .number) (sym (c .before .outside .ensures) ∙ c .if1 .taken)
 
 record-at-requires : tie.Need-record-at-requires
 record-at-requires c κs = search needs
@@ -20,7 +20,7 @@ record-at-requires c κs = search needs
 returns-2 : tie.Need-returns-2
 returns-2 c =
     let w = c .before .before .before .before in
-    credential-inside (now (w .args .bundle)) _ _ _ (w .pre) (sym (c .before .before .outside .ensures) ∙ c .before .if1 .left)
+    credential-inside (now (w .args .bundle)) _ (w .pre) _ _ (sym (c .before .before .outside .ensures) ∙ c .before .if1 .left)
     (c .record-at .ensures)
 
 pub credential-spec : {M : Type 1} → statement M

@@ -4,8 +4,8 @@ use native.Mathlib.Omega.{arith}
 use mathlib.Core.Path.{sym, _∙_}
 use borrow.Author.Needs.{needs}
 use denote.Ref.{now}
-use Rattle.bundle.specs.Record.{credentials}
-use Rattle.bundle.proofs.Flags.{inside}
+use Rattle.base.proofs.Flags.{inside}
+use Rattle.bundle.specs.Held.{bookIn}
 use Rattle.checker.proofs.Lookups.{stated-outside, stated-inside}
 use Rattle.checker.proofs.line.stated.Statement.{statement}
 use Rattle.checker.proofs.line.stated.Tie as tie
@@ -16,7 +16,7 @@ outside-requires c κs = search needs
 returns : tie.Need-returns
 returns c =
     let args = c .before .before .before .before .args in
-    stated-outside (credentials (now (args .bundle)) (args .records)) (now (args .slip)) (args .lines) (args .p)
+    stated-outside (bookIn (now (args .bundle))) (now (args .slip)) (args .lines) (args .p)
     (sym (c .before .outside .ensures) ∙ c .if1 .taken)
 
 -- the line's number, where there is such a line
@@ -50,7 +50,7 @@ returns-2 : tie.Need-returns-2
 returns-2 c =
     let w = c .before .before .before .before in
     let args = w .before .before .before .before .args in
-    stated-inside (credentials (now (args .bundle)) (args .records)) (now (args .slip)) (args .lines) (args .p) _ _ _ _
+    stated-inside (bookIn (now (args .bundle))) (now (args .slip)) (args .lines) (args .p) _ _ _ _
     (sym (w .before .outside .ensures) ∙ w .if1 .left) (c .before .before .before .byte .ensures .0) (c .before .byte2 .ensures .0)
     (c .before .before .credential .ensures) (c .stated-by .ensures)
 
