@@ -26,7 +26,7 @@ flatMap-holds f a b (List·Memᴰ·head {xs = xs} e) j = Memᴰ·append-left (fl
 flatMap-holds f a b (List·Memᴰ·tail {x = x} i) j = Memᴰ·append-right (f x) (flatMap-holds f a b i j)
 
 -- the numbers from 1 to n
-pub upTo : ℕ → List ℕ
+unfoldable pub upTo : ℕ → List ℕ
 upTo zero = []
 upTo (suc n) = suc n ∷ upTo n
 

@@ -2,7 +2,7 @@
 -- open role holds everyone, and D is possible in A.r exactly if some completion makes D a member.
 -- So the answer worked out from the sure and the possible assignment is YES, NO or UNSURE exactly as defined.
 use Prim.Native.Nat.{ℕ}
-use mathlib.Core.Path.{_≡_, refl, sym}
+use mathlib.Core.Path.{_≡_, refl, sym, _∙_}
 use mathlib.Core.Bool.{Bool, true, false, true≢false}
 use mathlib.Core.Logic.{_↔_, _⊎_, inl, inr, ⊎-elim}
 use mathlib.Core.List.{List, [], _++_, map, flatMap, Memᴰ·append-left, Memᴰ·append-right, Memᴰ·map, Memᴰ·of-map}
@@ -182,6 +182,24 @@ module _ (E R : ℕ) (isOpen : Open) where
 
   pub nothing-open : ((ρ : Role) → isOpen ρ ≡ false) → (cs : List Credential) (ρ : Role) (D : ℕ) → Unsure E R isOpen cs ρ D → ⊥
   nothing-open h = nothing-open-within (λ ρ v. h ρ)
+
+-- only the roles within E and R count: open tests that agree on these have the same completions, and so the same answers
+abbrev pub SameWithin : ℕ → ℕ → Open → Open → Type 0
+SameWithin E R isOpen other = (ρ : Role) → ValidRole E R ρ → isOpen ρ ≡ other ρ
+
+completable-within : (E R : ℕ) (isOpen other : Open) → SameWithin E R isOpen other → (cs : List Credential) (ρ : Role) (D : ℕ)
+    → Completable E R isOpen cs ρ D → Completable E R other cs ρ D
+completable-within E R isOpen other same cs ρ D (ks, completes, m) = (ks, also, m)
+  where
+    also : Completion E R other ks
+    also k i = let (valid, o) = completes k i in (valid, sym (same (head k) (valid-head E R k valid)) ∙ o)
+
+pub answers-within : (E R : ℕ) (isOpen other : Open) → SameWithin E R isOpen other → (cs : List Credential) (ρ : Role) (D : ℕ) (v : Verdict)
+    → Answers E R isOpen cs ρ D v → Answers E R other cs ρ D v
+answers-within E R isOpen other same cs ρ D YES a = a
+answers-within E R isOpen other same cs ρ D NO a = λ c. a (completable-within E R other isOpen (λ σ v. sym (same σ v)) cs ρ D c)
+answers-within E R isOpen other same cs ρ D UNSURE (unsure, possible) =
+    (unsure, λ never. possible (λ c. never (completable-within E R isOpen other same cs ρ D c)))
 
 -- a completion's credentials are issued by entities whose shelves are absent
 pub open-issuer : (shelf : ℕ → Shelf) (k : Credential) → openBy shelf (head k) ≡ isAbsent (shelf (issuer k))

@@ -66,10 +66,10 @@ abbrev pub shelfIf : Bool → Shelf → Shelf
 shelfIf true other = Absent
 shelfIf false other = other
 
--- the shelves of the entities listed are absent, all others present
-unfoldable pub shelves : List ℕ → ℕ → Shelf
-shelves [] A = Present
-shelves (B ∷ Bs) A = shelfIf (eqb A B) (shelves Bs A)
+-- every shelf is present but those of the entities listed, which are absent
+unfoldable pub presentBut : List ℕ → ℕ → Shelf
+presentBut [] A = Present
+presentBut (B ∷ Bs) A = shelfIf (eqb A B) (presentBut Bs A)
 
 -- these credentials held over so many entities and names, the shelves of the entities listed as absent being absent:
 -- the verdict on whether the one asked about is in the role, and the number of rounds
@@ -111,5 +111,5 @@ cases =
 -- the verdict and the number of rounds that a case states are right
 abbrev pub RightCase : Case → Type 0
 RightCase k =
-    Answers (k .entities) (k .names) (openBy (shelves (k .absent))) (k .held) (k .into) (k .asked) (k .verdict)
+    Answers (k .entities) (k .names) (openBy (presentBut (k .absent))) (k .held) (k .into) (k .asked) (k .verdict)
     × Rounds (k .held) (k .rounds)
