@@ -1,9 +1,10 @@
--- The lines of some answers, byte by byte.
+-- The lines of some answers and of an accepted bundle, and a message, byte by byte.
 use mathlib.Core.Path.{_≡_, refl}
 use mathlib.Core.List.{[], _∷_}
 use Rattle.answers.specs.declared.Answer.the-variants.{Yes, No, Unsure, Refused}
+use Rattle.answers.specs.Ascii.{ascii}
 use Rattle.answers.specs.Decimal.{decimal, digitsWithin}
-use Rattle.answers.specs.Line.{lineOf}
+use Rattle.answers.specs.Line.{acceptedLine, messageOf, lineOf}
 
 -- `YES 4`
 yes-4 : lineOf (Yes 4 6) ≡ 89 ∷ 69 ∷ 83 ∷ 32 ∷ 52 ∷ 10 ∷ []
@@ -24,3 +25,13 @@ unsure-7680 = refl
 refused-10-6 : lineOf (Refused 10 6) ≡ 82 ∷ 69 ∷ 70 ∷ 85 ∷ 83 ∷ 69 ∷ 68 ∷ 32 ∷ 49 ∷ 48 ∷ 32 ∷ 54 ∷ 10 ∷ []
 unfolding decimal digitsWithin
 refused-10-6 = refl
+
+-- `ACCEPTED 6 6 240`
+accepted-6-6-240 : acceptedLine 6 6 240
+    ≡ 65 ∷ 67 ∷ 67 ∷ 69 ∷ 80 ∷ 84 ∷ 69 ∷ 68 ∷ 32 ∷ 54 ∷ 32 ∷ 54 ∷ 32 ∷ 50 ∷ 52 ∷ 48 ∷ 10 ∷ []
+unfolding decimal digitsWithin
+accepted-6-6-240 = refl
+
+-- a message that fits stands as it is
+message-fits : messageOf (ascii "ask") ≡ 97 ∷ 115 ∷ 107 ∷ []
+message-fits = refl

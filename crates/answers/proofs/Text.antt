@@ -7,14 +7,14 @@ use mathlib.Core.List.{List, [], _∷_, _++_, append-nil, append-assoc}
 use lib.ListN.{length, take, drop, set, replicate, length-set, length-append, take-append-drop}
 use lib.Seq.{take-suc-set, drop-set-lt, drop-drop, length-take-le}
 use Rattle.answers.specs.declared.line.Text.{Text}
-use Rattle.answers.specs.Line.{Holds, Extends}
+use Rattle.answers.specs.Line.{capacity, Holds, Extends}
 
 -- zeros without their first
 drop-zero : (k n : ℕ) → k ≡ suc n → drop {A = ℕ} 1 (replicate k 0) ≡ replicate n 0
 drop-zero k n e = rw e
 
 -- a byte stored past the end of a text, and counted
-pub extends-byte : (text : Text) (byte : ℕ) → text .length < 24
+pub extends-byte : (text : Text) (byte : ℕ) → text .length < capacity
     → Extends text (byte ∷ []) (record { bytes = set (text .bytes) (text .length) byte; length = text .length + 1 })
 extends-byte text byte room = record { counted = refl; holds = holds }
   where
@@ -31,7 +31,7 @@ extends-byte text byte room = record { counted = refl; holds = holds }
               drop-set-lt (n + 1) (text .bytes) n byte (omega arith)
               ∙ sym (drop-drop 1 n (text .bytes))
               ∙ ap (drop 1) (h .rest)
-              ∙ drop-zero (24 - n) (24 - (n + 1)) (omega arith);
+              ∙ drop-zero (capacity - n) (capacity - (n + 1)) (omega arith);
         }
 
 -- no byte more
@@ -51,8 +51,8 @@ extends-more {more = more} {still} a b =
 pub length-shown : {text : Text} {shown : List ℕ} → Holds text shown → text .length ≡ length shown
 length-shown {text} h = omega (arith, length-take-le (text .length) (text .bytes) (omega arith), ap length (h .first))
 
--- the bytes of a text are those that it shows, and zeros up to 24
-bytes-shown : {text : Text} {shown : List ℕ} → Holds text shown → text .bytes ≡ shown ++ replicate (24 - length shown) 0
+-- the bytes of a text are those that it shows, and zeros up to its capacity
+bytes-shown : {text : Text} {shown : List ℕ} → Holds text shown → text .bytes ≡ shown ++ replicate (capacity - length shown) 0
 bytes-shown {text} h = sym (take-append-drop (text .length) (text .bytes)) ∙ rw (h .first, h .rest, length-shown h)
 
 -- two texts that show the same are the same

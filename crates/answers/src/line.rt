@@ -1,31 +1,43 @@
-// The line that the program `ask` prints, written byte by byte from its start.
+// What the programs print: the line of an answer, of a refusal or of an accepted bundle, and messages, each written byte by byte from
+// its start into a text of a fixed size.
 ghost use mathlib.Core.Path.{_≡_};
 ghost use mathlib.Core.List.{[], _∷_, _++_};
 ghost use Prim.Native.Nat.{_+_, _<_, _≤_};
 ghost use lib.ListN.{length};
 ghost use Rattle.answers.specs.Decimal.{decimal};
-ghost use Rattle.answers.specs.Line.{newline, refusalLine, lineOf, Holds, Extends};
+ghost use Rattle.answers.specs.Line.{capacity, newline, refusalLine, acceptedLine, messageOf, lineOf, Holds, Extends};
 use crate::Answer;
 
 // A text in the making or made: the first `length` bytes, with zeros past them.
 pub struct Text {
-    pub bytes: [u8; 24],
+    pub bytes: [u8; Text::CAPACITY],
     pub length: usize,
 }
 
-// No text yet.
-fn empty() -> Text
+impl Text {
+    // How many bytes a text has room for: every line, and the messages of the programs.
+    pub const CAPACITY: usize = 64;
+}
+
+// What a program says: on standard output and on standard error.
+pub struct Said {
+    pub out: Text,
+    pub problem: Text,
+}
+
+// A text that shows nothing.
+pub fn empty() -> Text
     ensures { λ r. ⌜ Holds r [] × (r .length ≡ 0) ⌝ }
 {
     Text {
-        bytes: [0u8; 24],
+        bytes: [0u8; Text::CAPACITY],
         length: 0,
     }
 }
 
 // The text with one byte more.
 fn put(text: Text, byte: u8) -> Text
-    requires { ⌜ text .length < 24 ⌝ }
+    requires { ⌜ text .length < capacity ⌝ }
     ensures { λ r. ⌜ Extends text (byte ∷ []) r ⌝ }
 {
     let at = text.length;
@@ -39,7 +51,7 @@ fn put(text: Text, byte: u8) -> Text
 
 // The text with a word more.
 fn word(text: Text, letters: &[u8]) -> Text
-    requires { ⌜ text .length + length (now letters) ≤ 24 ⌝ }
+    requires { ⌜ text .length + length (now letters) ≤ capacity ⌝ }
     ensures { λ r. ⌜ Extends text (now (letters .entry)) r ⌝ }
 {
     let mut longer = text;
@@ -53,7 +65,7 @@ fn word(text: Text, letters: &[u8]) -> Text
 
 // The text with a number more, in decimal: the digits before the last one, then the last one.
 fn number(text: Text, n: u16) -> Text
-    requires { ⌜ text .length + length (decimal n) ≤ 24 ⌝ }
+    requires { ⌜ text .length + length (decimal n) ≤ capacity ⌝ }
     ensures { λ r. ⌜ Extends text (decimal n) r ⌝ }
 {
     if n < 10 {
@@ -74,8 +86,8 @@ fn word_and_number(letters: &[u8], n: u16) -> Text
     put(numbered, b'\n')
 }
 
-// The line of a refusal.
-fn refusal(kind: u8, place: u16) -> Text
+// The line of a refusal: `REFUSED number place`.
+pub fn refusal(kind: u8, place: u16) -> Text
     ensures { λ r. ⌜ Holds r (refusalLine kind place) ⌝ }
 {
     let worded = word(empty(), b"REFUSED ");
@@ -83,6 +95,27 @@ fn refusal(kind: u8, place: u16) -> Text
     let spaced = put(numbered, b' ');
     let placed = number(spaced, place);
     put(placed, b'\n')
+}
+
+// The line of an accepted bundle: `ACCEPTED E R N`.
+pub fn accepted(entities: u8, names: u8, records: u8) -> Text
+    ensures { λ r. ⌜ Holds r (acceptedLine entities names records) ⌝ }
+{
+    let worded = word(empty(), b"ACCEPTED ");
+    let with_entities = put(number(worded, entities as u16), b' ');
+    let with_names = put(number(with_entities, names as u16), b' ');
+    let with_records = number(with_names, records as u16);
+    put(with_records, b'\n')
+}
+
+// A message as it stands, or nothing where it is longer than a text has room for.
+pub fn message(words: &[u8]) -> Text
+    ensures { λ r. ⌜ Holds r (messageOf (now (words .entry))) ⌝ }
+{
+    if Text::CAPACITY < words.len() {
+        return empty();
+    }
+    word(empty(), words)
 }
 
 // The line of an answer.

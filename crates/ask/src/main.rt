@@ -1,14 +1,22 @@
 // The program `ask`: one question from standard input, three bytes and then a bundle, and one line as the answer.
 //
-// It reads up to 4,096 bytes, and the longest question has 3,587. So longer input is refused for its length, as any other
-// bytes of a wrong length, and never cut to a bundle. Where standard input cannot be read to its end it prints no answer.
+// Its buffer has room for the longest question. So input that is longer than the buffer is refused for its length, and never cut to a
+// question. Where standard input cannot be read to its end it prints no answer, but a message on standard error.
 ghost use mathlib.Core.Path.{_≡_};
 ghost use Prim.Native.Nat.{_≤_, min};
+ghost use lib.ListN.{length};
 ghost use Rattle.answers.specs.Answer.{outcomeOf};
 ghost use Rattle.search.specs.Promise.{Promise, lent};
-ghost use Rattle.ask.specs.Input.{bundleOf, questionOf};
+ghost use Rattle.ask.specs.Input.{questionBytes, longestInput, bundleOf, questionOf};
+ghost use Rattle.ask.specs.Prints.{Enough};
+ghost use Rattle.ask.specs.Says.{Printed, Read, Right};
 use answers::Answer;
+use answers::line::Said;
+use answers::line::Text;
+use answers::line::empty;
 use answers::line::line;
+use answers::line::message;
+use answers::line::refusal;
 use bundle::block::byte;
 use input::Input;
 use input::fill;
@@ -16,9 +24,23 @@ use libc::STDERR_FILENO;
 use libc::STDOUT_FILENO;
 use search::search;
 
+// The memory of the program.
+struct Memory;
+
+impl Memory {
+    // The bytes of the buffer for standard input.
+    const BUFFER: usize = 4096;
+
+    // The words of each table that the search is lent.
+    const WORDS: usize = 512;
+
+    // The bytes of the slip buffer that the search is lent: 7,680 lines of 8.
+    const SLIP_BYTES: usize = 61440;
+}
+
 // Where the bundle starts: behind three bytes, or at the end where there are fewer.
 fn bundle_start(size: usize) -> usize
-    ensures { λ r. ⌜ (r ≡ min 3 size) × (r ≤ size) ⌝ }
+    ensures { λ r. ⌜ (r ≡ min questionBytes size) × (r ≤ size) ⌝ }
 {
     if size < 3 { size } else { 3 }
 }
@@ -36,22 +58,63 @@ fn ask(input: &[u8], sure: &mut [u32], possible: &mut [u32], slip: &mut [u8]) ->
     search(&input[start..], d, a, r, sure, possible, slip)
 }
 
+// The line of the answer, found with enough lent memory.
+fn line_with(input: &[u8], sure: &mut [u32], possible: &mut [u32], slip: &mut [u8]) -> Text
+    requires { ⌜ Enough (lent (now sure) (now possible) (now slip)) ⌝ }
+    ensures { λ r. ⌜ Printed (now (input .entry)) r ⌝ }
+{
+    let answer = ask(input, sure, possible, slip);
+    line(answer)
+}
+
+// The line of the answer to these bytes.
+fn line_for(input: &[u8]) -> Text
+    ensures { λ r. ⌜ Printed (now (input .entry)) r ⌝ }
+{
+    let mut sure = [0u32; Memory::WORDS];
+    let mut possible = [0u32; Memory::WORDS];
+    let mut slip = [0u8; Memory::SLIP_BYTES];
+    line_with(input, &mut sure, &mut possible, &mut slip)
+}
+
+// What is said of a buffer that standard input was read into.
+fn say(got: Input, buffer: &[u8]) -> Said
+    requires { ⌜ (longestInput ≤ length (now buffer)) × Read got (now buffer) ⌝ }
+    ensures { λ r. ⌜ Right got (now (buffer .entry)) r ⌝ }
+{
+    match got {
+        Input::Whole(n) => Said {
+            out: line_for(&buffer[..n]),
+            problem: empty(),
+        },
+        Input::Longer => Said {
+            out: refusal(1, 0),
+            problem: empty(),
+        },
+        Input::Failed(_) => Said {
+            out: empty(),
+            problem: message(b"ask: standard input cannot be read to its end\n"),
+        },
+    }
+}
+
+// Writes what is rightly said of the buffer.
+fn write(said: Said, got: Input, buffer: &[u8])
+    requires { ⌜ Right got (now buffer) said ⌝ }
+{
+    let out = said.out;
+    let shown = out.bytes;
+    let size = out.length;
+    io::write_all(STDOUT_FILENO, &shown[..size]);
+    let problem = said.problem;
+    let told = problem.bytes;
+    let length = problem.length;
+    io::write_all(STDERR_FILENO, &told[..length]);
+}
+
 fn main() {
-    let mut buffer = io::buffer();
+    let mut buffer = [0u8; Memory::BUFFER];
     let got = fill(&mut buffer);
-    let Input::Bytes(n) = got else {
-        io::write_all(
-            STDERR_FILENO,
-            b"ask: standard input cannot be read to its end\n",
-        );
-        return;
-    };
-    let mut sure = [0u32; 512];
-    let mut possible = [0u32; 512];
-    let mut slip = [0u8; 61440];
-    let answer = ask(&buffer[..n], &mut sure, &mut possible, &mut slip);
-    let text = line(answer);
-    let length = text.length;
-    let bytes = text.bytes;
-    io::write_all(STDOUT_FILENO, &bytes[..length]);
+    let said = say(got, &buffer);
+    write(said, got, &buffer);
 }

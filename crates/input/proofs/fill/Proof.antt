@@ -1,70 +1,85 @@
--- `input::fill` meets its contract. The invariant: so many bytes are read, within the buffer, whose length stays.
-use Prim.Native.Nat.{_-_, _≤_}
-use mathlib.Core.Path.{_≡_}
-use lib.ListN.{length}
+-- `input::fill` meets its contract. The invariant: so many bytes came in pieces, one behind the other.
+use native.Mathlib.Omega.{arith}
 use borrow.Author.Needs.{needs}
+use Prim.Native.Nat.{_-_}
+use mathlib.Core.Path.{refl, _∙_}
+use lib.ListN.{length}
+use Rattle.input.specs.Input.{Came}
+use Rattle.input.proofs.Pieces.{came-none, came-length, filled-whole, came-piece, came-ended, came-failed}
+use Rattle.input.proofs.Answers.{failure-held}
 use Rattle.input.proofs.fill.Statement.{statement}
 use Rattle.input.proofs.fill.Tie as tie
 
 abbrev Inv-loop : tie.InvT-loop
-Inv-loop buffer₀ done₀ buffer done = (done ≤ length buffer) × (length buffer ≡ length buffer₀)
+Inv-loop buffer₀ done₀ buffer done = Came done buffer₀ buffer
 
 abbrev μ-loop : tie.MeasureT-loop
 μ-loop buffer₀ done₀ buffer done = length buffer - done
 
+-- backwards from a piece: the turn of the loop in which it was read
+abbrev turn : tie.After-next-piece Inv-loop μ-loop → tie.At-loop Inv-loop μ-loop
+turn c = c .before .before .before
+
+-- backwards from where a piece came, from where the input ended and from where the read failed: the piece
+abbrev came : tie.After-known-told Inv-loop μ-loop → tie.After-next-piece Inv-loop μ-loop
+came c = c .before .before .before .before .before
+
+abbrev ended : tie.After-enum-told Inv-loop μ-loop → tie.After-next-piece Inv-loop μ-loop
+ended c = c .before .before .before .before
+
+abbrev failed : tie.After-known-told2 Inv-loop μ-loop → tie.After-next-piece Inv-loop μ-loop
+failed c = c .before .before .before .before .before
+
 loop-holds : tie.Need-loop-holds Inv-loop μ-loop
-loop-holds c = search needs
+loop-holds c = came-none _
 
-sub-read : tie.Need-sub-read Inv-loop μ-loop
-sub-read c = search needs
+next-piece-requires : tie.Need-next-piece-requires Inv-loop μ-loop
+next-piece-requires c κs = search needs
 
-part-read-start : tie.Need-part-read-start Inv-loop μ-loop
-part-read-start c = search needs
-
-part-read-end : tie.Need-part-read-end Inv-loop μ-loop
-part-read-end c = search needs
-
-read-requires : tie.Need-read-requires Inv-loop μ-loop
-read-requires c κs = search needs
-
-same-length : tie.Need-same-length Inv-loop μ-loop
-same-length c = search needs
-
-returns : tie.Need-returns Inv-loop μ-loop
-returns c = search needs
-
-sub-count : tie.Need-sub-count Inv-loop μ-loop
-sub-count c = search needs
-
-part-count-start : tie.Need-part-count-start Inv-loop μ-loop
-part-count-start c = search needs
-
-part-count-end : tie.Need-part-count-end Inv-loop μ-loop
-part-count-end c = search needs
-
-count-requires : tie.Need-count-requires Inv-loop μ-loop
-count-requires c κs = search needs
-
-same-length-2 : tie.Need-same-length-2 Inv-loop μ-loop
-same-length-2 c = search needs
-
-returns-2 : tie.Need-returns-2 Inv-loop μ-loop
-returns-2 c = search needs
+enum-known-n : tie.Need-enum-known-n Inv-loop μ-loop
+enum-known-n c = search needs
 
 add-done : tie.Need-add-done Inv-loop μ-loop
-add-done c = search needs
+add-done c =
+    let piece = rw (c .before .n .given .1) at (c .before .before .before .before .before .next-piece .ensures) in
+    omega (arith, piece, came-length (turn (came c) .loop .inv))
 
 loop-less : tie.Need-loop-less Inv-loop μ-loop
-loop-less c = search needs
+loop-less c =
+    let piece = rw (c .before .n .given .1) at (c .before .before .before .before .before .next-piece .ensures) in
+    omega (arith, piece, came c .next-piece .kept .0)
 
 loop-again : tie.Need-loop-again Inv-loop μ-loop
-loop-again c = search needs
+loop-again c = came-piece (turn (came c) .loop .inv) (c .before .n .given .1) (came c .next-piece .ensures)
+
+enum-told : tie.Need-enum-told Inv-loop μ-loop
+enum-told c = search needs
+
+same-length : tie.Need-same-length Inv-loop μ-loop
+same-length c = ended c .next-piece .kept .0 ∙ came-length (turn (ended c) .loop .inv)
+
+returns : tie.Need-returns Inv-loop μ-loop
+returns c = record { count = _; came = came-ended (turn (ended c) .loop .inv) (c .enum-told .given .1) (ended c .next-piece .ensures); says = refl }
+
+enum-known-answer : tie.Need-enum-known-answer Inv-loop μ-loop
+enum-known-answer c = search needs
+
+same-length-2 : tie.Need-same-length-2 Inv-loop μ-loop
+same-length-2 c = failed c .next-piece .kept .0 ∙ came-length (turn (failed c) .loop .inv)
+
+returns-2 : tie.Need-returns-2 Inv-loop μ-loop
+returns-2 c =
+    let (stays, answer) = came-failed (turn (failed c) .loop .inv) (c .before .answer .given .1) (failed c .next-piece .ensures) in
+    record { count = _; came = stays; says = failure-held _ answer }
+
+past-the-end-requires : tie.Need-past-the-end-requires Inv-loop μ-loop
+past-the-end-requires c κs = search needs
 
 same-length-3 : tie.Need-same-length-3 Inv-loop μ-loop
-same-length-3 c = search needs
+same-length-3 c = came-length (c .before .before .loop .inv)
 
 returns-3 : tie.Need-returns-3 Inv-loop μ-loop
-returns-3 c = search needs
+returns-3 c = filled-whole _ (c .before .before .loop .inv) (c .before .loop-test .left) (c .past-the-end .ensures)
 
 pub fill-spec : {M : Type 1} → statement M
 fill-spec =
@@ -73,20 +88,17 @@ fill-spec =
     Inv-loop
     μ-loop
     loop-holds
-    sub-read
-    part-read-start
-    part-read-end
-    read-requires
-    same-length
-    returns
-    sub-count
-    part-count-start
-    part-count-end
-    count-requires
-    same-length-2
-    returns-2
+    next-piece-requires
+    enum-known-n
     add-done
     loop-less
     loop-again
+    enum-told
+    same-length
+    returns
+    enum-known-answer
+    same-length-2
+    returns-2
+    past-the-end-requires
     same-length-3
     returns-3)

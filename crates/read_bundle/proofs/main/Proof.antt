@@ -1,13 +1,7 @@
--- `read_bundle::main` is safe: what was read lies within the buffer.
-use native.Mathlib.Omega.{arith}
+-- `read_bundle::main` is safe: its buffer has room for the longest bundle, and what it writes is rightly said of that buffer.
 use borrow.Author.Needs.{needs}
-use mathlib.Core.Path.{sym}
-use lib.Seq.{length-take-le}
 use Rattle.read_bundle.proofs.main.Statement.{statement}
 use Rattle.read_bundle.proofs.main.Tie as tie
-
-buffer-requires : tie.Need-buffer-requires
-buffer-requires c κs = search needs
 
 slice-aggregate-fill : tie.Need-slice-aggregate-fill
 slice-aggregate-fill c = search needs
@@ -15,54 +9,29 @@ slice-aggregate-fill c = search needs
 fill-requires : tie.Need-fill-requires
 fill-requires c κs = search needs
 
-enum-known-got : tie.Need-enum-known-got
-enum-known-got c = search needs
+slice-aggregate-say : tie.Need-slice-aggregate-say
+slice-aggregate-say c = search needs
 
-enum-told : tie.Need-enum-told
-enum-told c = search needs
+say-requires : tie.Need-say-requires
+say-requires c κs = search needs
 
-slice-aggregate-write-all : tie.Need-slice-aggregate-write-all
-slice-aggregate-write-all c = search needs
+slice-aggregate-write : tie.Need-slice-aggregate-write
+slice-aggregate-write c = search needs
 
-write-all-requires : tie.Need-write-all-requires
-write-all-requires c κs = search needs
+write-requires : tie.Need-write-requires
+write-requires c κs = search needs
 
 returns : tie.Need-returns
 returns c = search needs
-
-array-share-prefix-buffer : tie.Need-array-share-prefix-buffer
-array-share-prefix-buffer c =
-    let filled = c .before .before .before .before .fill in
-    omega (arith, rw (c .before .got .given .1) at (filled .ensures), filled .kept .0)
-
-slice-aggregate-read : tie.Need-slice-aggregate-read
-slice-aggregate-read c =
-    let filled = c .before .before .before .before .before .fill in
-    sym (length-take-le _ _ (omega (arith, rw (c .before .before .got .given .1) at (filled .ensures), filled .kept .0)))
-
-read-requires : tie.Need-read-requires
-read-requires c κs = search needs
-
-print-line-requires : tie.Need-print-line-requires
-print-line-requires c κs = search needs
-
-returns-2 : tie.Need-returns-2
-returns-2 c = search needs
 
 pub main-spec : {M : Type 1} → statement M
 main-spec =
     tie.close
     (tie.spec
-    buffer-requires
     slice-aggregate-fill
     fill-requires
-    enum-known-got
-    enum-told
-    slice-aggregate-write-all
-    write-all-requires
-    returns
-    array-share-prefix-buffer
-    slice-aggregate-read
-    read-requires
-    print-line-requires
-    returns-2)
+    slice-aggregate-say
+    say-requires
+    slice-aggregate-write
+    write-requires
+    returns)

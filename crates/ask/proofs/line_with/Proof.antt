@@ -1,0 +1,35 @@
+-- `ask::line_with` meets its contract.
+use borrow.Author.Needs.{needs}
+use denote.Ref.{now}
+use Rattle.answers.specs.Line.{lineOf}
+use Rattle.ask.proofs.Prints.{prints-answer}
+use Rattle.ask.proofs.line_with.Statement.{statement}
+use Rattle.ask.proofs.line_with.Tie as tie
+
+ask-requires : tie.Need-ask-requires
+ask-requires c κs = search needs
+
+line-requires : tie.Need-line-requires
+line-requires c κs = search needs
+
+same-length : tie.Need-same-length
+same-length c = search needs
+
+same-length-2 : tie.Need-same-length-2
+same-length-2 c = search needs
+
+same-length-3 : tie.Need-same-length-3
+same-length-3 c = search needs
+
+returns : tie.Need-returns
+returns c =
+    let answered = c .before .before .before .before .before .before .before in
+    record {
+      shown = lineOf (answered .ask .result);
+      holds = c .line .ensures;
+      prints = prints-answer (now (c .before .before .before .before .before .before .before .before .before .before .before .before .before .before .before .args .input)) _ _ (answered .ask .result) (c .before .before .before .before .before .before .before .before .before .before .before .before .before .before .before .pre) (answered .ask .ensures);
+    }
+
+pub line-with-spec : {M : Type 1} → statement M
+line-with-spec =
+    tie.close (tie.spec ask-requires line-requires same-length same-length-2 same-length-3 returns)
