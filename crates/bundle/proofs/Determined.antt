@@ -16,7 +16,7 @@ use Rattle.bundle.proofs.Accepted.{accepted-contents}
 
 module _ (bytes : List ℕ) where
   -- an accepted bundle has an entity
-  some-sizes : Clear (readerRows bytes) → noSizes ≡ sizesIn bytes → ⊥
+  pub some-sizes : Clear (readerRows bytes) → noSizes ≡ sizesIn bytes → ⊥
   some-sizes c e = omega (arith, accepted-contents bytes noSizes (record { clear = c; said = e }) .some-entity)
 
   -- a refusal is one that is due

@@ -31,8 +31,8 @@ abbrev pub held : List ℕ → List Credential
 held bytes = credentials bytes (recordsOf bytes)
 
 -- the roles that further credentials may define: those of the entities marked absent
-abbrev pub openIn : List ℕ → Open
-openIn bytes = openBy (shelves bytes)
+abbrev pub openOf : List ℕ → Open
+openOf bytes = openBy (shelves bytes)
 
 -- the credentials by the numbers of their records
 abbrev pub bookIn : List ℕ → Book
@@ -44,7 +44,7 @@ holdingIn bytes =
     record {
       entities = entitiesOf bytes;
       names = namesOf bytes;
-      isOpen = openIn bytes;
+      isOpen = openOf bytes;
       held = held bytes;
       book = bookIn bytes;
       records = recordsOf bytes;

@@ -1,0 +1,53 @@
+-- `tables::fill_accepted` meets its contract.
+use denote.Ref.{now}
+use Rattle.tables.proofs.Held.{held-entities}
+use Rattle.tables.proofs.Promised.{tables-enough, both-left, refused-short}
+use borrow.Author.Needs.{needs}
+use Rattle.tables.proofs.fill_accepted.Statement.{statement}
+use Rattle.tables.proofs.fill_accepted.Tie as tie
+
+returns : tie.Need-returns
+returns c = refused-short _ _ (c .before .before .before .before .pre) (c .if1 .taken)
+
+fill-table-requires : tie.Need-fill-table-requires
+fill-table-requires c κs =
+    let start = c .before .before .before .before .before in
+    (start .pre, tables-enough (now (start .args .sure)) (now (start .args .possible)) (c .before .if1 .left) .0)
+
+absent-requires : tie.Need-absent-requires
+absent-requires c κs = held-entities _ (c .before .before .before .before .before .before .before .before .pre)
+
+fill-table-requires-2 : tie.Need-fill-table-requires-2
+fill-table-requires-2 c κs =
+    let start = c .before .before .before .before .before .before .before .before .before .before in
+    (start .pre, tables-enough (now (start .args .sure)) (now (start .args .possible)) (c .before .before .before .before .before .before .if1 .left) .1)
+
+cast-t17 : tie.Need-cast-t17
+cast-t17 c = search needs
+
+same-length : tie.Need-same-length
+same-length c = search needs
+
+same-length-2 : tie.Need-same-length-2
+same-length-2 c = search needs
+
+returns-2 : tie.Need-returns-2
+returns-2 c =
+    let marks = c .before .before .before .before in
+    let first = marks .before .before .before in
+    let enough = first .before .before in
+    both-left _ _ (enough .before .before .before .before .pre) _ _ _ (enough .if1 .left) (first .fill-table .ensures)
+    (rw (marks .absent .ensures) at (c .before .before .fill-table2 .ensures))
+
+pub fill-accepted-spec : {M : Type 1} → statement M
+fill-accepted-spec =
+    tie.close
+    (tie.spec
+    returns
+    fill-table-requires
+    absent-requires
+    fill-table-requires-2
+    cast-t17
+    same-length
+    same-length-2
+    returns-2)

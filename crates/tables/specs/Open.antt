@@ -1,0 +1,34 @@
+-- Which roles are open, as one value that the code computes once and hands on: a word of entities and a word of names.
+use Prim.Native.Nat.{ℕ, zero, suc, _-_, _^_}
+use mathlib.Core.Bool.{_||_}
+use mathlib.Core.List.{List}
+use lib.Dec.{eqb}
+use lib.Bits.{bitOr}
+use Rattle.rt0.specs.Credential.{_·_}
+use Rattle.rt0.specs.Completion.{isAbsent, Open}
+use Rattle.rt0.specs.Word.{bit, pickWord, openWords}
+use Rattle.bundle.specs.Held.{shelves}
+use Rattle.tables.specs.declared.start.OpenRoles.{OpenRoles}
+use Rattle.bundle.specs.declared.read.Sizes.{Sizes}
+use Rattle.tables.specs.Sizes.{width, tableWords}
+
+-- role A.r is open where bit A − 1 of the word of entities is 1, or bit r − 1 of the word of names
+abbrev pub openIn : OpenRoles → Open
+openIn o (A · r) = eqb (bit (o .entities) (A - 1)) 1 || eqb (bit (o .names) (r - 1)) 1
+
+-- no role is open
+abbrev pub nothingOpen : OpenRoles
+nothingOpen = record { entities = 0; names = 0 }
+
+-- the word of the absent entities up to n
+unfoldable pub absentWord : List ℕ → ℕ → ℕ
+absentWord bytes zero = 0
+absentWord bytes (suc n) = bitOr (absentWord bytes n) (pickWord (isAbsent (shelves bytes (suc n))) (2 ^ n) 0)
+
+-- the roles of the absent entities up to E are open
+abbrev pub absentRoles : List ℕ → ℕ → OpenRoles
+absentRoles bytes E = record { entities = absentWord bytes E; names = 0 }
+
+-- the table that the rounds start from: everyone in every open role, and nobody elsewhere
+abbrev pub startWords : Sizes → OpenRoles → List ℕ
+startWords s o = openWords (s .entities) (s .names) width (openIn o) tableWords

@@ -1,0 +1,70 @@
+// The two tables of a bundle: who is in which role with no completion, and under at least one; with the number of rounds.
+ghost use Rattle.bundle.specs.Rows.{Accepts};
+ghost use Rattle.tables.specs.Promise.{TablesPromise, tables};
+use crate::settle::fill_table;
+use crate::start::OpenRoles;
+use crate::start::absent;
+use crate::table::Table;
+use bundle::read::Reading;
+use bundle::read::Sizes;
+use bundle::read::read;
+
+pub mod give;
+pub mod round;
+pub mod settle;
+pub mod start;
+pub mod table;
+
+// What filling the tables of a bundle answers.
+pub enum Filled {
+    // E, R and N, and the number of rounds over the held credentials.
+    Rounds { sizes: Sizes, rounds: u16 },
+    // The reader's refusal, or 8 where a table is too short.
+    Refused { number: u8, place: u16 },
+}
+
+// The tables of an accepted bundle: the sure one with nothing open, the possible one with the roles of absent entities open.
+fn fill_accepted(bundle: &[u8], sizes: Sizes, sure: &mut [u32], possible: &mut [u32]) -> Filled
+    requires { ⌜ Accepts (now bundle) sizes ⌝ }
+    ensures { λ w. ⌜ TablesPromise (now (bundle .entry)) (tables (now (sure .entry)) (now (possible .entry)))
+        (tables (now (sure .exit)) (now (possible .exit))) w ⌝ }
+{
+    if (sure.len() < Table::WORDS) | (possible.len() < Table::WORDS) {
+        return Filled::Refused {
+            number: 8,
+            place: 0,
+        };
+    }
+    let nothing = OpenRoles {
+        entities: 0,
+        names: 0,
+    };
+    let rounds = fill_table(bundle, sizes, nothing, sure);
+    fill_table(bundle, sizes, absent(bundle, sizes.entities), possible);
+    Filled::Rounds {
+        sizes,
+        rounds: rounds as u16,
+    }
+}
+
+// The tables of every bundle, in all lent words.
+pub fn fill(bundle: &[u8], sure: &mut [u32], possible: &mut [u32]) -> Filled
+    ensures { λ w. ⌜ TablesPromise (now (bundle .entry)) (tables (now (sure .entry)) (now (possible .entry)))
+        (tables (now (sure .exit)) (now (possible .exit))) w ⌝ }
+{
+    let reading = read(bundle);
+    let Reading::Accepted(sizes) = reading else {
+        match reading {
+            Reading::Refused { number, place } => {
+                return Filled::Refused { number, place };
+            }
+            Reading::Accepted(_) => {
+                return Filled::Refused {
+                    number: 0,
+                    place: 0,
+                };
+            }
+        }
+    };
+    fill_accepted(bundle, sizes, sure, possible)
+}
