@@ -8,8 +8,9 @@ use mathlib.Core.List.{List}
 use lib.ListN.{length, getD, set}
 use lib.Seq.{getD-set-same, getD-set-other, set-getD}
 use lib.Bits.{bitOr}
-use Rattle.rt0.specs.Credential.{Credential}
+use Rattle.rt0.specs.Book.{Book}
 use Rattle.rt0.proofs.Bits.{bit-or}
+use Rattle.tables.specs.Sizes.{mostEntities}
 use Rattle.search.specs.Fact.{HasLine, Backed}
 use Rattle.search.specs.Ledger.{Extended}
 use Rattle.search.specs.Writing.{AllStated}
@@ -19,18 +20,18 @@ module _ (said : List ℕ) (at given : ℕ) where
   abbrev more : List ℕ
   more = set said at (bitOr (getD said at 0) given)
 
-  pub backed-more : {cs : List Credential} {index slip : List ℕ} {n : ℕ} {index' slip' : List ℕ} {n' : ℕ}
-      → Extended cs index slip n index' slip' n' → at < length said
-      → Backed said index → AllStated index' (32 * at) given 32 → Backed more index'
-  backed-more {index' = index'} x l backed stated f b h = by-cases (ℕ-discrete (f / 32) at) here
-      (λ d. x .keeps f (backed f b (rw (getD-set-other said at (f / 32) (bitOr (getD said at 0) given) 0 d) at h)))
+  pub backed-more : {book : Book} {index slip : List ℕ} {n : ℕ} {index' slip' : List ℕ} {n' : ℕ}
+      → Extended book index slip n index' slip' n' → at < length said
+      → Backed said index → AllStated index' (mostEntities * at) given mostEntities → Backed more index'
+  backed-more {index' = index'} x l backed stated f b h = by-cases (ℕ-discrete (f / mostEntities) at) here
+      (λ d. x .keeps f (backed f b (rw (getD-set-other said at (f / mostEntities) (bitOr (getD said at 0) given) 0 d) at h)))
     where
-      here : f / 32 ≡ at → HasLine index' f
+      here : f / mostEntities ≡ at → HasLine index' f
       here e =
-          let whole : 32 * at + f % 32 ≡ f = omega arith in
+          let whole : mostEntities * at + f % mostEntities ≡ f = omega arith in
           let word = rw (e, getD-set-same said at (bitOr (getD said at 0) given) 0 l) at h in
-          ⊎-elim (λ o. x .keeps f (backed f b (rw e o))) (λ o. rw whole at (stated (f % 32) (omega arith) o))
-          (bit-or (getD said at 0) given (f % 32) .0 word)
+          ⊎-elim (λ o. x .keeps f (backed f b (rw e o))) (λ o. rw whole at (stated (f % mostEntities) (omega arith) o))
+          (bit-or (getD said at 0) given (f % mostEntities) .0 word)
 
   -- where nothing is new the words stay
   pub none-new : bitOr (getD said at 0) given ≡ getD said at 0 → more ≡ said

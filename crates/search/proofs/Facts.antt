@@ -1,36 +1,45 @@
 -- Facts by number: a fact's number gives back its role's word, its member's bit and the fact, and no two numbers have one fact.
-use Prim.Native.Nat.{ℕ, suc, _-_, _/_, _%_, _<_}
+use Prim.Native.Nat.{ℕ, suc, _+_, _-_, _*_, _/_, _%_, _<_}
 use native.Mathlib.Omega.{arith}
 use mathlib.Core.Path.{_≡_}
 use mathlib.Core.List.{List}
 use Rattle.rt0.specs.Credential.{Role, _·_, ValidRole, IsEntity}
 use Rattle.rt0.specs.Slip.{_∋_}
 use Rattle.rt0.specs.Word.{bit, place, wordAt}
-use Rattle.search.specs.Fact.{factNumber, fact, Holds}
+use Rattle.tables.specs.Sizes.{mostEntities, width, factCount}
+use Rattle.tables.proofs.Given.{place-valid}
+use Rattle.search.specs.Fact.{factNumber, fact, HasFact}
 
-pub number-within : (ρ : Role) (D : ℕ) → ValidRole 32 16 ρ → IsEntity 32 D → factNumber ρ D < 16384
-number-within (A · r) D v d = omega arith
+-- the number of a fact of a valid role
+abbrev numbered : Role → ℕ → ℕ
+numbered ρ D = mostEntities * place width ρ + (D - 1)
 
-pub number-fact : (ρ : Role) (D : ℕ) → ValidRole 32 16 ρ → IsEntity 32 D → fact (factNumber ρ D) ≡ (ρ ∋ D)
+number-is : (ρ : Role) (D : ℕ) → ValidRole mostEntities width ρ → factNumber ρ D ≡ numbered ρ D
+number-is ρ D v = rw (place-valid ρ v)
+
+pub number-within : (ρ : Role) (D : ℕ) → ValidRole mostEntities width ρ → IsEntity mostEntities D → factNumber ρ D < factCount
+number-within (A · r) D v d = rw (number-is (A · r) D v) (omega arith)
+
+pub number-fact : (ρ : Role) (D : ℕ) → ValidRole mostEntities width ρ → IsEntity mostEntities D → fact (factNumber ρ D) ≡ (ρ ∋ D)
 unfolding fact
 number-fact (A · r) D v d =
-    let a : suc (factNumber (A · r) D / 32 / 16) ≡ A = omega arith in
-    let n : suc (factNumber (A · r) D / 32 % 16) ≡ r = omega arith in
-    let m : suc (factNumber (A · r) D % 32) ≡ D = omega arith in
-    rw (a, n, m)
+    let a : suc (numbered (A · r) D / mostEntities / width) ≡ A = omega arith in
+    let n : suc (numbered (A · r) D / mostEntities % width) ≡ r = omega arith in
+    let m : suc (numbered (A · r) D % mostEntities) ≡ D = omega arith in
+    rw (number-is (A · r) D v, a, n, m)
 
 -- the words hold a fact at its role's word and its member's bit
-pub number-holds : (ws : List ℕ) (ρ : Role) (D : ℕ) → ValidRole 32 16 ρ → IsEntity 32 D → bit (wordAt 16 ws ρ) (D - 1) ≡ 1
-    → Holds ws (factNumber ρ D)
+pub number-holds : (ws : List ℕ) (ρ : Role) (D : ℕ) → ValidRole mostEntities width ρ → IsEntity mostEntities D
+    → bit (wordAt width ws ρ) (D - 1) ≡ 1 → HasFact ws (factNumber ρ D)
 number-holds ws (A · r) D v d h =
-    let word : factNumber (A · r) D / 32 ≡ place 16 (A · r) = omega arith in
-    let member : factNumber (A · r) D % 32 ≡ D - 1 = omega arith in
-    rw (word, member) h
+    let word : numbered (A · r) D / mostEntities ≡ place width (A · r) = omega arith in
+    let member : numbered (A · r) D % mostEntities ≡ D - 1 = omega arith in
+    rw (number-is (A · r) D v, word, member) h
 
 pub fact-injective : (f g : ℕ) → fact f ≡ fact g → f ≡ g
 unfolding fact
 fact-injective f g e =
-    let a : suc (f / 32 / 16) ≡ suc (g / 32 / 16) = cc in
-    let n : suc (f / 32 % 16) ≡ suc (g / 32 % 16) = cc in
-    let m : suc (f % 32) ≡ suc (g % 32) = cc in
+    let a : suc (f / mostEntities / width) ≡ suc (g / mostEntities / width) = cc in
+    let n : suc (f / mostEntities % width) ≡ suc (g / mostEntities % width) = cc in
+    let m : suc (f % mostEntities) ≡ suc (g % mostEntities) = cc in
     omega arith

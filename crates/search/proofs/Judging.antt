@@ -1,70 +1,120 @@
 -- The order of the refusals 7 and 8 after the reader's own, and the promise of a whole answer from its stages.
 use Prim.Native.Nat.{ℕ, _≤_}
-use mathlib.Core.Path.{_≡_, refl, sym, _∙_}
-use mathlib.Core.Bool.{Bool, true, false, _||_}
-use mathlib.Core.List.{List}
 use native.Mathlib.Omega.{arith}
+use mathlib.Core.Path.{_≡_, refl, sym, ap, _∙_}
+use mathlib.Core.Bool.{Bool, true, false, cond, _||_}
+use mathlib.Core.Logic.{inl, inr, ⊎-elim}
+use mathlib.Core.List.{List, [], _∷_}
 use lib.ListN.{length}
 use lib.Dec.{ltb}
 use borrow.Author.Tests.{ltb-false}
+use Rattle.base.specs.Refusals.{Row, Due, Clear, Applies, AllOnePlace, AllNumbered, refused, passed}
+use Rattle.base.proofs.Flags.{or-false, Tells, or-tells-three, lt-tells, clash-flag}
+use Rattle.base.proofs.Refusals.{due-first, due-later, clear-both, one-place-both, numbered-both, zero-place}
+use Rattle.bundle.specs.declared.read.Sizes.{Sizes}
 use Rattle.bundle.specs.declared.read.Reading.{Reading}
-use Rattle.bundle.specs.declared.read.Reading.the-variants.{Accepted, Refused}
-use Rattle.bundle.specs.Layout.{outside}
-use Rattle.bundle.specs.Reading.{readOf}
-use Rattle.bundle.proofs.Stages.{or-false}
-use Rattle.bundle.proofs.Flags.{inside}
+use Rattle.bundle.specs.declared.read.Reading.the-variants as reading
+use Rattle.bundle.specs.declared.question.Question.{Question}
+use Rattle.bundle.specs.Layout.{entitiesOf, namesOf}
+use Rattle.bundle.specs.Rows.{readerRows, Reads, Accepts}
+use Rattle.bundle.specs.Held.{holdingIn}
+use Rattle.bundle.specs.Question.{questionWrong, questionRow, Asked}
+use Rattle.bundle.proofs.Accepted.{accepted-contents}
+use Rattle.bundle.proofs.Refusals.{reader-places, reader-numbers, reads-accepted}
+use Rattle.bundle.proofs.Determined.{reads-refused}
+use Rattle.bundle.proofs.Questions.{question-tells, asked-right}
 use Rattle.answers.specs.Answer.{Outcome, refusal}
-use Rattle.search.specs.Promise.{Question, Lent, questionWrong, lentWrong, AnsweredWith, PromiseAfter, Promise}
-use Rattle.search.specs.Concluded.{Right}
-
--- a question that is not out of range is right
-pub question-right : (bytes : List ℕ) (E R N d a r : ℕ) (found : Bool) → readOf bytes ≡ Accepted E R N
-    → found ≡ questionWrong E R (record { person = d; entity = a; name = r }) → found ≡ false → Right bytes E R N d a r
-question-right bytes E R N d a r found h e f =
-    let (both, name) = or-false (outside E d || outside E a) (outside R r) (sym e ∙ f) in
-    let (person, entity) = or-false (outside E d) (outside E a) both in
-    record {
-      reading = h;
-      person = omega (arith, inside E d person);
-      entity = omega (arith, inside E a entity);
-      name = omega (arith, inside R r name);
-    }
+use Rattle.tables.specs.declared.Filled.the-variants as filled
+use Rattle.tables.specs.Sizes.{tableWords, slipBytes}
+use Rattle.tables.specs.Promise.{Tables, tables, tablesWrong, TablesPromise}
+use Rattle.tables.proofs.Told.{refused-told}
+use Rattle.search.specs.Promise.{Lent, lent, LentShort, lentWrong, lentRow, searchRows, AnsweredWith, Promise}
+use Rattle.search.specs.Concluded.{RefusedAs}
 
 -- memory that is not too short is enough
-pub lent-enough : (m : Lent) → lentWrong m ≡ false → (512 ≤ length (m .sure)) × (512 ≤ length (m .possible)) × (61440 ≤ length (m .slip))
+pub lent-enough : (m : Lent) → lentWrong m ≡ false
+    → (tableWords ≤ length (m .sure)) × (tableWords ≤ length (m .possible)) × (slipBytes ≤ length (m .slip))
 lent-enough m h =
-    let (tables, slip) = or-false (ltb (length (m .sure)) 512 || ltb (length (m .possible)) 512) (ltb (length (m .slip)) 61440) h in
-    let (sure, possible) = or-false (ltb (length (m .sure)) 512) (ltb (length (m .possible)) 512) tables in
-    (ltb-false (length (m .sure)) 512 sure, ltb-false (length (m .possible)) 512 possible, ltb-false (length (m .slip)) 61440 slip)
+    let (both, slip) = or-false (tablesWrong (tables (m .sure) (m .possible))) (ltb (length (m .slip)) slipBytes) h in
+    let (sure, possible) = or-false (ltb (length (m .sure)) tableWords) (ltb (length (m .possible)) tableWords) both in (
+      ltb-false (length (m .sure)) tableWords sure,
+      ltb-false (length (m .possible)) tableWords possible,
+      ltb-false (length (m .slip)) slipBytes slip,
+    )
 
-module _ (bytes : List ℕ) (E R N : ℕ) (q : Question) (before : Lent) where
-  pub refused-7 : (found : Bool) → found ≡ questionWrong E R q → found ≡ true
-      → PromiseAfter (Accepted E R N) bytes q before before (refusal 7 0)
-  unfolding PromiseAfter
-  refused-7 found e h = let wrong : questionWrong E R q ≡ true = sym e ∙ h in rw wrong (record { outcome = refl; untouched = refl })
+lent-tells : (m : Lent) → Tells (lentWrong m) (LentShort m)
+lent-tells m =
+    or-tells-three _ _ _ (lt-tells (length (m .sure)) tableWords) (lt-tells (length (m .possible)) tableWords) (lt-tells (length (m .slip)) slipBytes)
 
-  pub refused-8 : (found : Bool) → found ≡ questionWrong E R q → found ≡ false → lentWrong before ≡ true
-      → PromiseAfter (Accepted E R N) bytes q before before (refusal 8 0)
-  unfolding PromiseAfter
-  refused-8 found e h short =
-      let right : questionWrong E R q ≡ false = sym e ∙ h in
-      rw (right, short) (record { outcome = refl; untouched = refl })
+-- what the reader answered
+pub refused-reader : (bytes : List ℕ) (wrong : Bool) (n p : ℕ) → Reads bytes (reading.Refused n p) → RefusedAs bytes wrong (refusal n p)
+refused-reader bytes wrong n p r = record { outcome = refl; due = inl (reads-refused bytes n p r) }
 
-  pub answered-after : (after : Lent) (o : Outcome) (found : Bool) → found ≡ questionWrong E R q → found ≡ false → lentWrong before ≡ false
-      → AnsweredWith bytes E R N q before after o → PromiseAfter (Accepted E R N) bytes q before after o
-  unfolding PromiseAfter
-  answered-after after o found e h enough w =
-      let right : questionWrong E R q ≡ false = sym e ∙ h in
-      rw (right, enough) w
+pub refused-question : (bytes : List ℕ) (s : Sizes) (wrong : Bool) → Reads bytes (reading.Accepted s) → wrong ≡ true → RefusedAs bytes wrong (refusal 7 0)
+refused-question bytes s wrong r e = record { outcome = refl; due = inr (reads-accepted bytes s r .clear, rw e, refl) }
 
--- what the reader refused
-pub refused-read : (bytes : List ℕ) (q : Question) (before : Lent) (number place : ℕ)
-    → PromiseAfter (Refused number place) bytes q before before (refusal number place)
-unfolding PromiseAfter
-refused-read bytes q before number place = record { outcome = refl; untouched = refl }
+pub refused-memory : (bytes : List ℕ) (s : Sizes) (wrong : Bool) → Reads bytes (reading.Accepted s) → wrong ≡ false → RefusedAs bytes wrong (refusal 8 0)
+refused-memory bytes s wrong r e = record { outcome = refl; due = inr (reads-accepted bytes s r .clear, rw e, refl) }
 
--- what the reader answered decides
-pub promise-by : (bytes : List ℕ) (q : Question) (before after : Lent) (o : Outcome) (reading : Reading) → reading ≡ readOf bytes
-    → PromiseAfter reading bytes q before after o → Promise bytes q before after o
-unfolding Promise
-promise-by bytes q before after o reading e p = rw (← e) p
+-- a question in range by block 0 is asked of an accepted bundle
+pub asked-of : (bytes : List ℕ) (q : Question) (s : Sizes) → Accepts bytes s → questionWrong (entitiesOf bytes) (namesOf bytes) q ≡ false → Asked bytes s q
+asked-of bytes q s a w =
+    let contents = accepted-contents bytes s a in
+    let E : s .entities ≡ entitiesOf bytes = contents .entities in
+    let R : s .names ≡ namesOf bytes = contents .names in
+    asked-right bytes s q a (rw (E, R) w)
+
+module _ (bytes : List ℕ) (q : Question) (before : Lent) where
+  -- the rows behind the reader's
+  abbrev pub later : List Row
+  later = questionRow bytes q ∷ lentRow before ∷ []
+
+  pub search-places : AllOnePlace (searchRows bytes q before)
+  search-places = one-place-both (readerRows bytes) later (reader-places bytes) (zero-place _, (zero-place _, tt))
+
+  pub search-numbers : AllNumbered (searchRows bytes q before)
+  search-numbers = numbered-both (readerRows bytes) later (reader-numbers bytes) (omega arith, (omega arith, tt))
+
+  abbrev outside : Bool
+  outside = questionWrong (entitiesOf bytes) (namesOf bytes) q
+
+  in-range : outside ≡ false → Applies (questionRow bytes q) → ⊥
+  in-range h (_, (_, w)) = clash-flag (question-tells (entitiesOf bytes) (namesOf bytes) q .1 w) h
+
+  enough-memory : lentWrong before ≡ false → Applies (lentRow before) → ⊥
+  enough-memory h (_, (_, w)) = clash-flag (lent-tells before .1 w) h
+
+  -- a wrong question, or else too little memory
+  own-due : (wrong : Bool) (n p : ℕ) → wrong ≡ outside → (wrong || lentWrong before) ≡ true → n ≡ cond wrong 7 8 → p ≡ 0 → Due later n p
+  own-due true n p e h k z = inl (sym k, (z, question-tells (entitiesOf bytes) (namesOf bytes) q .0 (sym e)))
+  own-due false n p e h k z = inr (in-range (sym e), inl (sym k, (z, lent-tells before .0 h)))
+
+  pub refused-rightly : (wrong : Bool) (o : Outcome) → wrong ≡ outside → (wrong || lentWrong before) ≡ true → RefusedAs bytes wrong o
+      → Promise bytes q before before o
+  refused-rightly wrong o e h r =
+      refused
+      (⊎-elim (λ d. due-first (readerRows bytes) later (o .number) (o .place) d)
+      (λ (clear, number, place). due-later (readerRows bytes) later (o .number) (o .place) clear (own-due wrong (o .number) (o .place) e h number place))
+      (r .due))
+      (record { outcome = r .outcome; untouched = refl })
+
+  -- no row applies
+  pub none-applies : (s : Sizes) → Accepts bytes s → outside ≡ false → lentWrong before ≡ false → Clear (searchRows bytes q before)
+  none-applies s a w m = clear-both (readerRows bytes) later (a .clear) (in-range w, (enough-memory m, tt))
+
+module _ (bytes : List ℕ) (q : Question) (sure possible slip : List ℕ) (enough : lentWrong (lent sure possible slip) ≡ false) where
+  -- the tables are refused by the reader alone
+  pub refused-tables : (after : Tables) (number place : ℕ) → TablesPromise bytes (tables sure possible) after (filled.Refused number place)
+      → Promise bytes q (lent sure possible slip) (lent (after .sure) (after .possible) slip) (refusal number place)
+  refused-tables after number place p =
+      let (both, _) = or-false (tablesWrong (tables sure possible)) (ltb (length slip) slipBytes) enough in
+      let (d, untouched) = refused-told bytes (tables sure possible) after number place both p in
+      refused (due-first (readerRows bytes) (later bytes q (lent sure possible slip)) number place d)
+      (record { outcome = refl; untouched = ap (λ (t : Tables). lent (t .sure) (t .possible) slip) untouched })
+
+  pub answered-rightly : (s : Sizes) (after : Lent) (o : Outcome) → Accepts bytes s → questionWrong (entitiesOf bytes) (namesOf bytes) q ≡ false
+      → AnsweredWith (holdingIn bytes) q (lent sure possible slip) after o → Promise bytes q (lent sure possible slip) after o
+  answered-rightly s after o a w r =
+      let number : o .number ≡ 0 = ap (λ (x : Outcome). x .number) (r .outcome) in
+      let place : o .place ≡ 0 = ap (λ (x : Outcome). x .place) (r .outcome) in
+      passed number place (none-applies bytes q (lent sure possible slip) s a w enough) r

@@ -8,24 +8,26 @@ use mathlib.Core.Logic.{inl, inr, ⊎-elim, by-cases}
 use mathlib.Core.List.{List}
 use lib.ListN.{length}
 use lib.Seq.{getD-set-same, getD-set-other}
-use Rattle.rt0.specs.Credential.{Credential}
+use Rattle.rt0.specs.Book.{Book}
 use Rattle.rt0.specs.Bytes.{linesOf}
 use Rattle.rt0.specs.Word.{bit}
 use Rattle.rt0.proofs.Bits.{bit-cases}
+use Rattle.tables.specs.Sizes.{tableWords}
 use Rattle.search.specs.Fact.{HasLine, Backed}
 use Rattle.search.specs.Ledger.{Ledger, Extended}
-use Rattle.search.specs.Writing.{held, Writing, NoneOrLast, OneMore, AtMostOneMore, Unsaid, Progress, AllStated}
-use Rattle.search.proofs.Comparing.{drop-later}
+use Rattle.bundle.specs.Held.{bookIn}
+use Rattle.search.specs.Writing.{Writing, NoneOrLast, OneMore, AtMostOneMore, Unsaid, Progress, AllStated}
+use Rattle.tables.proofs.Comparing.{drop-later}
 
 -- ---- none, and two
 
-pub extended-same : {cs : List Credential} {index slip : List ℕ} {n : ℕ} → Ledger cs index (linesOf slip n)
-    → Extended cs index slip n index slip n
+pub extended-same : {book : Book} {index slip : List ℕ} {n : ℕ} → Ledger book index (linesOf slip n)
+    → Extended book index slip n index slip n
 extended-same ledger = record { ledger = ledger; size = refl; more = omega arith; rest = refl; keeps = λ f h. h }
 
-pub extended-twice : {cs : List Credential} {index slip : List ℕ} {n : ℕ} {index' slip' : List ℕ} {n' : ℕ}
-    {index'' slip'' : List ℕ} {n'' : ℕ} → Extended cs index slip n index' slip' n' → Extended cs index' slip' n' index'' slip'' n''
-    → Extended cs index slip n index'' slip'' n''
+pub extended-twice : {book : Book} {index slip : List ℕ} {n : ℕ} {index' slip' : List ℕ} {n' : ℕ}
+    {index'' slip'' : List ℕ} {n'' : ℕ} → Extended book index slip n index' slip' n' → Extended book index' slip' n' index'' slip'' n''
+    → Extended book index slip n index'' slip'' n''
 extended-twice {slip = slip} {slip' = slip'} {n' = n'} {n'' = n''} x y = record {
   ledger = y .ledger;
   size = y .size ∙ x .size;
@@ -36,11 +38,10 @@ extended-twice {slip = slip} {slip' = slip'} {n' = n'} {n'' = n''} x y = record 
 
 -- with other words, whose facts all have lines too
 pub writing-words : {bytes : List ℕ} {E : ℕ} {ws index slip : List ℕ} {n : ℕ} {index' slip' : List ℕ} {n' : ℕ}
-    → Writing bytes E ws index slip n → Extended (held bytes) index slip n index' slip' n'
-    → (said : List ℕ) → length said ≡ 512 → Backed said index' → Writing bytes E said index' slip' n'
+    → Writing bytes E ws index slip n → Extended (bookIn bytes) index slip n index' slip' n'
+    → (said : List ℕ) → length said ≡ tableWords → Backed said index' → Writing bytes E said index' slip' n'
 writing-words w x said size backed = record {
-  sound = w .sound;
-  entities = w .entities;
+  accepts = w .accepts;
   words = size;
   room = omega (arith, w .room, x .size);
   ledger = x .ledger;
@@ -49,19 +50,19 @@ writing-words w x said size backed = record {
 
 -- with the same words
 pub writing-on : {bytes : List ℕ} {E : ℕ} {ws index slip : List ℕ} {n : ℕ} {index' slip' : List ℕ} {n' : ℕ}
-    → Writing bytes E ws index slip n → Extended (held bytes) index slip n index' slip' n' → Writing bytes E ws index' slip' n'
+    → Writing bytes E ws index slip n → Extended (bookIn bytes) index slip n index' slip' n' → Writing bytes E ws index' slip' n'
 writing-on {ws = ws} w x = writing-words w x ws (w .words) (λ f l h. x .keeps f (w .backed f l h))
 
 -- ---- up to a fact
 
 -- with the fact's line, which is the last
-pub progress-stop : {cs : List Credential} {index slip : List ℕ} {n : ℕ} {index' slip' : List ℕ} {n' : ℕ} {P : Type 0} (f : ℕ)
-    → Extended cs index slip n index' slip' n' → NoneOrLast index' n' f → HasLine index' f → Progress cs index slip n f index' slip' n' P
+pub progress-stop : {book : Book} {index slip : List ℕ} {n : ℕ} {index' slip' : List ℕ} {n' : ℕ} {P : Type 0} (f : ℕ)
+    → Extended book index slip n index' slip' n' → NoneOrLast index' n' f → HasLine index' f → Progress book index slip n f index' slip' n' P
 progress-stop f x last has = record { extended = x; last = last; otherwise = λ none. absurd (has none) }
 
 -- without it
-pub progress-end : {cs : List Credential} {index slip : List ℕ} {n : ℕ} {index' slip' : List ℕ} {n' : ℕ} {P : Type 0} {f : ℕ}
-    → Extended cs index slip n index' slip' n' → Unsaid index' f → P → Progress cs index slip n f index' slip' n' P
+pub progress-end : {book : Book} {index slip : List ℕ} {n : ℕ} {index' slip' : List ℕ} {n' : ℕ} {P : Type 0} {f : ℕ}
+    → Extended book index slip n index' slip' n' → Unsaid index' f → P → Progress book index slip n f index' slip' n' P
 progress-end x unsaid p = record { extended = x; last = inl (unsaid .none); otherwise = λ _. p }
 
 -- ---- at most one more

@@ -1,16 +1,9 @@
 -- What any two answers that keep the promise agree in: everything but how many lines a written slip has, and which.
-use Prim.Native.Nat.{ℕ, _*_, _^_, _<_, max}
+use Prim.Native.Nat.{_*_, max}
 use mathlib.Core.Path.{_≡_}
-use lib.ListN.{length, getD, drop}
+use lib.ListN.{drop}
 use Rattle.answers.specs.Answer.{Outcome}
 use Rattle.search.specs.Promise.{Lent}
-
--- lent memory as it comes back: as long as it was, its table words of 32 bits
-pub record Memory (before after : Lent) : Type 0 where
-  pub sure-size : length (after .sure) ≡ length (before .sure)
-  pub possible-size : length (after .possible) ≡ length (before .possible)
-  pub sure-words : (i : ℕ) → getD (after .sure) i 0 < 2 ^ 32
-  pub possible-words : (i : ℕ) → getD (after .possible) i 0 < 2 ^ 32
 
 pub record Agreement (one : Outcome) (after-one : Lent) (two : Outcome) (after-two : Lent) : Type 0 where
   pub number : one .number ≡ two .number

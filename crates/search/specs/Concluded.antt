@@ -1,26 +1,36 @@
--- What stands between the promise of the search and its functions: a right question, and the word with its slip.
+-- What stands between the promise of the search and its functions: what the tables show, and the word with its slip.
 use Prim.Native.Nat.{ℕ}
 use mathlib.Core.Path.{_≡_}
+use mathlib.Core.Bool.{Bool, cond}
+use mathlib.Core.Logic.{_⊎_}
 use mathlib.Core.List.{List}
-use Rattle.rt0.specs.Credential.{_·_, IsEntity, IsName}
-use Rattle.rt0.specs.Completion.{openBy, Verdict, Answers}
-use Rattle.bundle.specs.declared.read.Reading.the-variants.{Accepted}
-use Rattle.bundle.specs.Record.{credentials}
-use Rattle.bundle.specs.Reading.{readOf}
-use Rattle.bundle.specs.Access.{shelves}
-use Rattle.answers.specs.Answer.{Outcome, answered}
-use Rattle.search.specs.Promise.{Question, SlipLeft}
+use Rattle.rt0.specs.Membership.{Member}
+use Rattle.rt0.specs.Table.{Rounds}
+use Rattle.rt0.specs.Completion.{Completable, Verdict, Answers}
+use Rattle.rt0.specs.Holding.{Holding}
+use Rattle.rt0.specs.Word.{Shows}
+use Rattle.bundle.specs.declared.question.Question.{Question}
+use Rattle.bundle.specs.Question.{roleAsked}
+use Rattle.base.specs.Refusals.{Due, Clear}
+use Rattle.bundle.specs.Rows.{readerRows}
+use Rattle.answers.specs.Answer.{Outcome, refusal, answered}
+use Rattle.tables.specs.Sizes.{mostEntities, width}
+use Rattle.search.specs.Promise.{SlipLeft}
 
--- the bundle is accepted, and the question is within its E and R
-pub record Right (bytes : List ℕ) (E R N d a r : ℕ) : Type 0 where
-  pub reading : readOf bytes ≡ Accepted E R N
-  pub person : IsEntity E d
-  pub entity : IsEntity E a
-  pub name : IsName R r
+-- the tables of a holding, with its number of rounds
+pub record TablesShow (h : Holding) (n : ℕ) (first second : List ℕ) : Type 0 where
+  pub rounds : Rounds (h .held) n
+  pub sure : Shows mostEntities width first (Member (h .held))
+  pub possible : Shows mostEntities width second (Completable (h .entities) (h .names) (h .isOpen) (h .held))
 
 -- the word, by RT0's own definition, with what the slip buffer then holds
-pub record Concluded (bytes : List ℕ) (E R N : ℕ) (q : Question) (rounds : ℕ) (before after : List ℕ) (o : Outcome) : Type 0 where
+pub record Concluded (h : Holding) (q : Question) (rounds : ℕ) (before after : List ℕ) (o : Outcome) : Type 0 where
   pub word : Verdict
-  pub answers : Answers E R (openBy (shelves bytes)) (credentials bytes N) (q .entity · q .name) (q .person) word
+  pub answers : Answers (h .entities) (h .names) (h .isOpen) (h .held) (roleAsked q) (q .person) word
   pub outcome : o ≡ answered word rounds (o .lines)
-  pub slip : SlipLeft (credentials bytes N) (q .entity · q .name) (q .person) before after (o .lines) word
+  pub slip : SlipLeft (h .book) (roleAsked q) (q .person) before after (o .lines) word
+
+-- a refusal: the reader's own where one is due, and else 7 for a wrong question, or 8
+pub record RefusedAs (bytes : List ℕ) (wrong : Bool) (o : Outcome) : Type 0 where
+  pub outcome : o ≡ refusal (o .number) (o .place)
+  pub due : Due (readerRows bytes) (o .number) (o .place) ⊎ (Clear (readerRows bytes) × (o .number ≡ cond wrong 7 8) × (o .place ≡ 0))

@@ -3,9 +3,10 @@ use Prim.Native.Nat.{ℕ, _+_, _*_, _<_, _≤_}
 use mathlib.Core.Path.{_≡_}
 use mathlib.Core.List.{List, [], _∷_, _++_}
 use lib.ListN.{length, getD, drop}
-use Rattle.rt0.specs.Credential.{Credential}
+use Rattle.rt0.specs.Book.{Book}
 use Rattle.rt0.specs.Slip.{Line, Says, RightSlip}
 use Rattle.rt0.specs.Bytes.{linesOf}
+use Rattle.tables.specs.Sizes.{factCount}
 use Rattle.search.specs.Fact.{fact, HasLine}
 
 -- one more line behind n lines: the lines before it and the bytes behind it stay
@@ -15,15 +16,15 @@ pub record WroteLine (before : List ℕ) (n : ℕ) (l : Line) (after : List ℕ)
   pub rest : drop (8 * (n + 1)) after ≡ drop (8 * (n + 1)) before
 
 -- the lines are a right slip, and the index has the number of the line that states a fact
-pub record Ledger (cs : List Credential) (index : List ℕ) (lines : List Line) : Type 0 where
-  pub size : length index ≡ 16384
-  pub right : RightSlip cs lines
-  pub there : (f : ℕ) → f < 16384 → HasLine index f → Says cs lines (getD index f 0) (fact f)
-  pub only : (f m : ℕ) → f < 16384 → Says cs lines m (fact f) → getD index f 0 ≡ m
+pub record Ledger (book : Book) (index : List ℕ) (lines : List Line) : Type 0 where
+  pub size : length index ≡ factCount
+  pub right : RightSlip book lines
+  pub there : (f : ℕ) → f < factCount → HasLine index f → Says book lines (getD index f 0) (fact f)
+  pub only : (f m : ℕ) → f < factCount → Says book lines m (fact f) → getD index f 0 ≡ m
 
 -- from n lines and their index to no fewer lines and theirs: what had a line has one, and the bytes behind the lines stay
-pub record Extended (cs : List Credential) (index slip : List ℕ) (n : ℕ) (index' slip' : List ℕ) (n' : ℕ) : Type 0 where
-  pub ledger : Ledger cs index' (linesOf slip' n')
+pub record Extended (book : Book) (index slip : List ℕ) (n : ℕ) (index' slip' : List ℕ) (n' : ℕ) : Type 0 where
+  pub ledger : Ledger book index' (linesOf slip' n')
   pub size : length slip' ≡ length slip
   pub more : n ≤ n'
   pub rest : drop (8 * n') slip' ≡ drop (8 * n') slip

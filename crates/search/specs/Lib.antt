@@ -1,11 +1,8 @@
 -- What the search promises. Promise: what the answer is, and what stands in lent memory, for every bundle, question and memory.
 -- Written: the slip that comes with YES. Agreement: what any two answers agree in. The others stand between the promise and the
--- functions. Give: what one use of a record gives, as a word. Rest: where the rounds lead. Filled: the lent tables. Concluded: the word.
--- Fact, Ledger, Premise, Writing: facts by number, a slip while it is written, where a line's premises stand, and one record's use.
-pub mod Give
+-- functions. Concluded: a right question, and its word. Fact, Ledger, Premise, Writing: facts by number, a slip while it is written,
+-- where a line's premises stand, and one record's use.
 pub mod Written
-pub mod Rest
-pub mod Filled
 pub mod Promise
 pub mod Concluded
 pub mod Agreement

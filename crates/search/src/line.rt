@@ -1,4 +1,5 @@
 // A line of a slip, as bytes.
+ghost use mathlib.Core.Path.{_≡_};
 ghost use Prim.Native.Nat.{_+_, _*_, _<_, _≤_};
 ghost use lib.ListN.{length};
 ghost use Rattle.rt0.specs.Slip.{line};
@@ -9,6 +10,19 @@ pub struct Premises {
     pub first: u16,
     pub second: u16,
     pub third: u16,
+}
+
+impl Premises {
+    // The three.
+    pub fn of(first: u16, second: u16, third: u16) -> Premises
+        ensures { λ r. ⌜ r ≡ record { first = first; second = second; third = third } ⌝ }
+    {
+        Premises {
+            first,
+            second,
+            third,
+        }
+    }
 }
 
 // One more line behind so many lines: the member, the credential's number and the premises, low byte first.

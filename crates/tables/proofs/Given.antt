@@ -4,7 +4,7 @@ use Prim.Native.Nat.{ℕ, zero, suc, _<_, _≤_, min}
 use native.Mathlib.Nat.{le-refl}
 use native.Mathlib.Omega.{arith}
 use mathlib.Core.Path.{_≡_, refl, sym, ap, subst, _∙_}
-use mathlib.Core.Bool.{Bool, false}
+use mathlib.Core.Bool.{Bool, true, false, cond}
 use mathlib.Core.Option.{some, Option·none-ne-some, Option·some-injective}
 use mathlib.Core.List.{List, List·Memᴰ·head, List·Memᴰ·tail}
 use Rattle.rt0.specs.Credential.{_·_, link, Credential, _⟵_, head, entityOf, nameOf, IsEntity, IsName, ValidRole, Valid}
@@ -40,6 +40,15 @@ inside-tables A r e f =
 pub place-valid : (ρ : RT0Role) → ValidRole mostEntities width ρ → placeOf (entityOf ρ) (nameOf ρ) ≡ place width ρ
 unfolding placeOf
 place-valid (A · r) v = rw (within-tables A r (v .0) (v .1))
+
+-- at every role the number is that of a word, or of all words
+pub place-most : (A r : ℕ) → placeOf A r ≤ tableWords
+unfolding placeOf
+place-most A r = most (outsideTables A r) refl
+  where
+    most : (found : Bool) → found ≡ outsideTables A r → cond found tableWords (place width (A · r)) ≤ tableWords
+    most true e = le-refl tableWords
+    most false e = let (a, n) = inside-tables A r e refl in omega arith
 
 pub place-small : (ρ : RT0Role) → ValidRole mostEntities width ρ → place width ρ < tableWords
 place-small (A · r) v = omega arith

@@ -1,67 +1,39 @@
 -- `search::answer::conclude` meets its contract.
 use native.Mathlib.Omega.{arith}
 use borrow.Author.Needs.{needs}
-use Rattle.search.proofs.Concluding.{within-tables, slip-due, conclude-yes, conclude-unsure, conclude-no}
+use Rattle.search.proofs.Concluding.{person-within, slip-due, conclude-yes, conclude-unsure, conclude-no}
 use Rattle.search.proofs.answer.conclude.Statement.{statement}
 use Rattle.search.proofs.answer.conclude.Tie as tie
 
 holds-requires : tie.Need-holds-requires
-holds-requires c κs =
-    let start = c .before .before .before .before in
-    let (person, entity, name) = within-tables _ _ _ _ _ _ _ (start .pre .0) in
-    (start .pre .1 .sure-size, person, entity, name)
+holds-requires c κs = person-within (c .before .before .before .before .pre .0)
 
 write-slip-requires : tie.Need-write-slip-requires
 write-slip-requires c κs =
-    let start = c .before .before .before .before .before .before .before in
-    let right = start .pre .0 in (
-      right .reading,
-      right .person,
-      (right .entity, right .name),
-      start .pre .2,
-      slip-due _ _ _ _ _ _ _ _ _ _ right (start .pre .1) _ (c .before .before .holds .ensures) (c .before .if1 .taken),
-    )
+    let pre = c .before .before .before .before .before .before .before .pre in
+    (pre .0, pre .2, pre .1 .rounds, slip-due (pre .0) (pre .1) (c .before .before .holds .ensures) (c .before .if1 .taken))
 
-cast-t16 : tie.Need-cast-t16
-cast-t16 c = omega (arith, c .before .before .before .before .before .before .before .before .before .before .pre .1 .sure-rounds .most)
-
-cast-t17 : tie.Need-cast-t17
-cast-t17 c = omega (arith, c .before .before .write-slip .ensures .most-lines)
+cast-t13 : tie.Need-cast-t13
+cast-t13 c = search needs
 
 same-length : tie.Need-same-length
 same-length c = search needs
 
 returns : tie.Need-returns
 returns c =
-    let call = c .before .before in
-    let test = call .before .before in
-    let start = test .before .before .before .before .before .before in
-    conclude-yes _ _ _ _ _ _ _ _ _ _ (start .pre .0) (start .pre .1) _ _ _ _ (test .before .holds .ensures) (test .if1 .taken)
-    (call .write-slip .ensures)
+    let pre = c .before .before .before .before .before .before .before .before .before .before .pre in
+    conclude-yes (pre .0) (pre .1) _ _ _ (c .before .before .before .before .before .holds .ensures) (c .before .before .before .before .if1 .taken) (c .before .before .write-slip .ensures)
 
 holds-requires-2 : tie.Need-holds-requires-2
-holds-requires-2 c κs =
-    let start = c .before .before .before .before .before .before in
-    let (person, entity, name) = within-tables _ _ _ _ _ _ _ (start .pre .0) in
-    (start .pre .1 .possible-size, person, entity, name)
-
-cast-t19 : tie.Need-cast-t19
-cast-t19 c = omega (arith, c .before .before .before .before .before .before .before .before .pre .1 .sure-rounds .most)
+holds-requires-2 c κs = person-within (c .before .before .before .before .before .before .pre .0)
 
 returns-2 : tie.Need-returns-2
 returns-2 c =
-    let test = c .before .before in
-    let start = test .before .before .before .before .before .before in
-    conclude-unsure _ _ _ _ _ _ _ _ _ _ (start .pre .0) (start .pre .1) _ _ _ (test .before .holds .ensures) (test .if1 .left)
-    (c .before .holds2 .ensures) (c .if2 .taken)
-
-cast-t20 : tie.Need-cast-t20
-cast-t20 c = omega (arith, c .before .before .before .before .before .before .before .before .pre .1 .sure-rounds .most)
+    let pre = c .before .before .before .before .before .before .before .before .pre in
+    conclude-unsure (pre .0) (pre .1) _ (c .before .before .before .holds .ensures) (c .before .before .if1 .left) (c .before .holds2 .ensures) (c .if2 .taken)
 
 returns-3 : tie.Need-returns-3
-returns-3 c =
-    let start = c .before .before .before .before .before .before .before .before in
-    conclude-no _ _ _ _ _ _ _ _ _ _ (start .pre .0) (start .pre .1) _ _ (c .before .holds2 .ensures) (c .if2 .left)
+returns-3 c = let pre = c .before .before .before .before .before .before .before .before .pre in conclude-no (pre .0) (pre .1) _ (c .before .holds2 .ensures) (c .if2 .left)
 
 pub conclude-spec : {M : Type 1} → statement M
 conclude-spec =
@@ -69,12 +41,9 @@ conclude-spec =
     (tie.spec
     holds-requires
     write-slip-requires
-    cast-t16
-    cast-t17
+    cast-t13
     same-length
     returns
     holds-requires-2
-    cast-t19
     returns-2
-    cast-t20
     returns-3)

@@ -1,7 +1,7 @@
 -- `search::premise::between` meets its contract.
 use borrow.Author.Needs.{needs}
 use Prim.Native.Nat.{_-_, _≤_}
-use Rattle.bundle.proofs.Lowest.{Missed, missed-none, missed-more}
+use Rattle.base.proofs.Lowest.{Missed, missed-none, missed-more}
 use Rattle.search.specs.Premise.{isBetween}
 use Rattle.search.proofs.Premises.{between-hit, between-there}
 use mathlib.Core.Path.{sym, _∙_}
@@ -39,7 +39,7 @@ loop-again c =
 returns-2 : tie.Need-returns-2 Inv-loop μ-loop
 returns-2 c =
     let start = c .before .before .before in
-    absurd (between-there _ _ _ _ _ _ (c .loop-test .left) (c .before .loop .inv .1) (start .pre .4))
+    absurd (between-there _ _ _ _ _ _ (c .loop-test .left) (c .before .loop .inv .1) (start .pre .2))
 
 pub between-spec : {M : Type 1} → statement M
 between-spec =

@@ -1,4 +1,5 @@
 -- `search::premise::is_between` meets its contract.
+use native.Mathlib.Omega.{arith}
 use borrow.Author.Needs.{needs}
 use Rattle.search.proofs.premise.is_between.Statement.{statement}
 use Rattle.search.proofs.premise.is_between.Tie as tie

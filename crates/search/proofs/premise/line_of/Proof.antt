@@ -1,5 +1,9 @@
 -- `search::premise::line_of` meets its contract.
+use native.Mathlib.Omega.{arith}
 use borrow.Author.Needs.{needs}
+use mathlib.Core.Path.{_≡_, refl, sym, ap, _∙_}
+use denote.Ref.{now}
+use Rattle.tables.proofs.Filling.{past-end}
 use Rattle.search.proofs.premise.line_of.Statement.{statement}
 use Rattle.search.proofs.premise.line_of.Tie as tie
 
@@ -13,8 +17,13 @@ shared-slice-read-result : tie.Need-shared-slice-read-result
 shared-slice-read-result c = search needs
 
 returns : tie.Need-returns
-returns c = rw (c .before .fact-number .ensures .0)
+returns c = rw (c .before .before .fact-number .ensures)
+
+returns-2 : tie.Need-returns-2
+returns-2 c =
+    let index = now (c .before .before .before .args .index) in
+    rw (← c .before .fact-number .ensures) (sym (past-end index _ (c .if1 .left)))
 
 pub line-of-spec : {M : Type 1} → statement M
 line-of-spec =
-    tie.close (tie.spec fact-number-requires mul-result shared-slice-read-result returns)
+    tie.close (tie.spec fact-number-requires mul-result shared-slice-read-result returns returns-2)

@@ -1,34 +1,36 @@
--- `search::slip::state_members` meets its contract.
+-- `search::slip::state_members` meets its contract. The invariant: the members before i have lines.
 use native.Mathlib.Omega.{arith}
 use borrow.Author.Needs.{needs}
-use Prim.Native.Nat.{_-_, _≤_}
-use mathlib.Core.Path.{sym, _∙_}
+use Prim.Native.Nat.{suc, _+_, _-_, _*_, _/_, _%_, _<_, _≤_, min}
+use mathlib.Core.Path.{_≡_, refl, sym, ap, _∙_}
 use denote.Ref.{now}
+use Rattle.search.proofs.Steps.{none-more, one-at-most, bit-one, extended-same, extended-twice, writing-on, progress-stop, progress-end, stated-none, stated-more}
+use Rattle.tables.specs.Sizes.{mostEntities}
 use Rattle.search.specs.Ledger.{Extended}
-use Rattle.search.specs.Writing.{held, Unsaid, AllStated}
-use Rattle.search.proofs.Steps.{extended-same, extended-twice, writing-on, progress-stop, progress-end, stated-none, stated-more}
+use Rattle.bundle.specs.Held.{bookIn}
+use Rattle.search.specs.Writing.{Unsaid, AllStated}
 use Rattle.search.proofs.slip.state_members.Statement.{statement}
 use Rattle.search.proofs.slip.state_members.Tie as tie
 
 abbrev Inv-loop : tie.InvT-loop
-Inv-loop bundle entities words number first given goal index₀ slip₀ lines count₀ i₀ index slip count i =
-    (i ≤ 32) × Extended (held bundle) index₀ slip₀ lines index slip count × Unsaid index goal × AllStated index first given i
+Inv-loop bundle words given goal index₀ slip₀ lines count₀ i₀ index slip count i =
+    (i ≤ mostEntities) × Extended (bookIn bundle) index₀ slip₀ lines index slip count × Unsaid index goal
+    × AllStated index (given .first) (given .word) i
 
 abbrev μ-loop : tie.MeasureT-loop
-μ-loop bundle entities words number first given goal index₀ slip₀ lines count₀ i₀ index slip count i =
-    32 - i
+μ-loop bundle words given goal index₀ slip₀ lines count₀ i₀ index slip count i = mostEntities - i
 
 loop-holds : tie.Need-loop-holds Inv-loop μ-loop
 loop-holds c =
     let start = c .before .before .before .before in
     let args = start .args in
     let pre = start .pre in
-    (search needs, extended-same (pre .0 .ledger), pre .5, stated-none (now (args .index)) (args .first) (args .given))
+    (search needs, extended-same (pre .0 .ledger), pre .2, stated-none (now (args .index)) (args .given .first) (args .given .word))
 
 state-if-new-requires : tie.Need-state-if-new-requires Inv-loop μ-loop
 state-if-new-requires c κs =
     let pre = c .before .before .before .before .before .before .before .before .pre in
-    (writing-on (pre .0) (c .before .before .before .loop .inv .1), pre .1, c .before .before .loop-test .taken, pre .2, pre .3, pre .4)
+    (writing-on (pre .0) (c .before .before .before .loop .inv .1), pre .1, c .before .before .loop-test .taken)
 
 mul-if1 : tie.Need-mul-if1 Inv-loop μ-loop
 mul-if1 c = search needs
@@ -61,13 +63,13 @@ loop-again : tie.Need-loop-again Inv-loop μ-loop
 loop-again c =
     let call = c .before .before .before .before .before .before in
     let turn = call .before .before .before .before in
-    let args = turn .before .before .before .before .before .args in
+    let given = turn .before .before .before .before .before .args .given in
     let inv = turn .loop .inv in
     let step = call .state-if-new .ensures in (
       search needs,
       extended-twice (inv .1) (step .extended),
       record { inside = inv .2 .inside; none = c .if1 .left },
-      stated-more (args .first) (args .given) _ step (inv .3),
+      stated-more (given .first) (given .word) _ step (inv .3),
     )
 
 same-length-3 : tie.Need-same-length-3 Inv-loop μ-loop

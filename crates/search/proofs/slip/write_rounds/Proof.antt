@@ -1,30 +1,32 @@
--- `search::slip::write_rounds` meets its contract.
+-- `search::slip::write_rounds` meets its contract. The invariant: the words said are those after so many rounds.
+use native.Mathlib.Omega.{arith}
 use borrow.Author.Needs.{needs}
-use Prim.Native.Nat.{_-_, _≤_}
+use Prim.Native.Nat.{suc, _+_, _-_, _*_, _/_, _%_, _<_, _≤_, min}
+use mathlib.Core.Path.{_≡_, refl, sym, ap, _∙_}
 use denote.Ref.{now}
-use mathlib.Core.Path.{_≡_, sym, _∙_}
 use Rattle.rt0.specs.Word.{timesWords}
+use Rattle.tables.specs.Sizes.{width}
 use Rattle.search.specs.Ledger.{Extended}
-use Rattle.search.specs.Writing.{held, Writing, Unsaid}
+use Rattle.bundle.specs.Held.{held, bookIn}
+use Rattle.search.specs.Writing.{Writing, Unsaid}
 use Rattle.search.proofs.Steps.{extended-same, extended-twice, writing-words}
 use Rattle.search.proofs.Finishing.{times-none, times-more, goal-there, last-line}
 use Rattle.search.proofs.slip.write_rounds.Statement.{statement}
 use Rattle.search.proofs.slip.write_rounds.Tie as tie
 
 abbrev Inv-loop : tie.InvT-loop
-Inv-loop bundle entities records rounds goal said₀ index₀ slip₀ count₀ round₀ said index slip count round =
-    (round ≤ rounds) × Writing bundle entities said index slip count × Extended (held bundle) index₀ slip₀ 0 index slip count
-    × Unsaid index goal × (said ≡ timesWords entities 16 (held bundle) round said₀)
+Inv-loop bundle sizes rounds goal said₀ index₀ slip₀ count₀ round₀ said index slip count round =
+    (round ≤ rounds) × Writing bundle (sizes .entities) said index slip count × Extended (bookIn bundle) index₀ slip₀ 0 index slip count
+    × Unsaid index goal × (said ≡ timesWords (sizes .entities) width (held bundle) round said₀)
 
 abbrev μ-loop : tie.MeasureT-loop
-μ-loop bundle entities records rounds goal said₀ index₀ slip₀ count₀ round₀ said index slip count round =
-    rounds - round
+μ-loop bundle sizes rounds goal said₀ index₀ slip₀ count₀ round₀ said index slip count round = rounds - round
 
 loop-holds : tie.Need-loop-holds Inv-loop μ-loop
 loop-holds c =
     let args = c .before .before .before .before .args in
     let pre = c .before .before .before .before .pre in
-    (search needs, pre .0, extended-same (pre .0 .ledger), pre .2, times-none (args .entities) (held (now (args .bundle))) _)
+    (search needs, pre .0, extended-same (pre .0 .ledger), pre .2, times-none (args .sizes .entities) (held (now (args .bundle))) _)
 
 one-round-requires : tie.Need-one-round-requires Inv-loop μ-loop
 one-round-requires c κs =
@@ -39,23 +41,19 @@ slice-read-if1 c = search needs
 
 same-length : tie.Need-same-length Inv-loop μ-loop
 same-length c =
-    let call = c .before .before .before .before .before .before .before .before in
-    let turn = call .before .before .before .before .before in
-    call .one-round .kept .1 .1 .1 .1 .0 ∙ (turn .loop .inv .1 .words ∙ sym (turn .before .before .before .before .before .pre .0 .words))
+    let turn = c .before .before .before .before .before .before .before .before .before .before .before .before .before in
+    c .before .before .before .before .before .before .before .before .one-round .kept .1 .1 .1 .0 ∙ (turn .loop .inv .1 .words ∙ sym (c .before .before .before .before .before .before .before .before .before .before .before .before .before .before .before .before .before .before .pre .0 .words))
 
 same-length-2 : tie.Need-same-length-2 Inv-loop μ-loop
 same-length-2 c = search needs
 
 same-length-3 : tie.Need-same-length-3 Inv-loop μ-loop
-same-length-3 c =
-    let call = c .before .before .before .before .before .before .before .before in
-    call .one-round .ensures .extended .size ∙ call .before .before .before .before .before .loop .inv .2 .size
+same-length-3 c = c .before .before .before .before .before .before .before .before .one-round .ensures .extended .size ∙ c .before .before .before .before .before .before .before .before .before .before .before .before .before .loop .inv .2 .size
 
 returns : tie.Need-returns Inv-loop μ-loop
 returns c =
-    let call = c .before .before .before .before .before .before .before .before in
-    let step = call .one-round .ensures in
-    last-line _ (extended-twice (call .before .before .before .before .before .loop .inv .2) (step .extended)) (step .last) (c .if1 .taken)
+    let step = c .before .before .before .before .before .before .before .before .one-round .ensures in
+    last-line _ (extended-twice (c .before .before .before .before .before .before .before .before .before .before .before .before .before .loop .inv .2) (step .extended)) (step .last) (c .if1 .taken)
 
 add-round : tie.Need-add-round Inv-loop μ-loop
 add-round c = search needs
@@ -66,16 +64,15 @@ loop-less c = search needs
 loop-again : tie.Need-loop-again Inv-loop μ-loop
 loop-again c =
     let call = c .before .before .before .before .before .before .before .before in
-    let turn = call .before .before .before .before .before in
-    let args = turn .before .before .before .before .before .args in
-    let inv = turn .loop .inv in
+    let args = c .before .before .before .before .before .before .before .before .before .before .before .before .before .before .before .before .before .before .args in
+    let inv = c .before .before .before .before .before .before .before .before .before .before .before .before .before .loop .inv in
     let step = call .one-round .ensures in
     let words = step .otherwise (c .if1 .left) in (
       search needs,
-      writing-words (inv .1) (step .extended) _ (call .one-round .kept .1 .1 .1 .1 .0 ∙ inv .1 .words) (words .1),
+      writing-words (inv .1) (step .extended) _ (call .one-round .kept .1 .1 .1 .0 ∙ inv .1 .words) (words .1),
       extended-twice (inv .2) (step .extended),
       record { inside = inv .3 .inside; none = c .if1 .left },
-      times-more (args .entities) (held (now (args .bundle))) _ _ _ _ (inv .4) (words .0),
+      times-more (args .sizes .entities) (held (now (args .bundle))) _ _ _ _ (inv .4) (words .0),
     )
 
 same-length-4 : tie.Need-same-length-4 Inv-loop μ-loop

@@ -1,16 +1,15 @@
 -- `search::slip::write_slip` meets its contract.
+use native.Mathlib.Omega.{arith}
 use borrow.Author.Needs.{needs}
 use denote.Ref.{now}
 use Rattle.rt0.specs.Word.{noneWords}
-use Rattle.search.proofs.Held.{question-within}
+use Rattle.search.proofs.Concluding.{person-within}
 use Rattle.search.proofs.Finishing.{ready, written}
 use Rattle.search.proofs.slip.write_slip.Statement.{statement}
 use Rattle.search.proofs.slip.write_slip.Tie as tie
 
 fact-number-requires : tie.Need-fact-number-requires
-fact-number-requires c κs =
-    let start = c .before .before in
-    question-within (now (start .args .bundle)) (start .pre .0) _ _ _ (start .pre .1) (start .pre .2)
+fact-number-requires c κs = person-within (c .before .before .pre .0)
 
 slice-aggregate-write-rounds : tie.Need-slice-aggregate-write-rounds
 slice-aggregate-write-rounds c = search needs
@@ -23,20 +22,17 @@ unfolding noneWords
 write-rounds-requires c κs =
     let args = c .before .before .before .before .before .before .args in
     let pre = c .before .before .before .before .before .before .pre in
-    ready (now (args .bundle)) _ _ _ (pre .0) _ _ _ (pre .1) (pre .2) (now (args .slip)) _ _
-    (c .before .before .before .fact-number .ensures .0) (pre .3) (pre .4)
+    ready (now (args .bundle)) _ _ (pre .0) (now (args .slip)) _ _
+    (c .before .before .before .fact-number .ensures) (pre .1) (pre .2) (pre .3)
 
 same-length : tie.Need-same-length
 same-length c = search needs
 
 returns : tie.Need-returns
 returns c =
-    let call = c .before .before .before .before in
-    let start = call .before .before .before .before .before .before .before in
-    let pre = start .pre in
-    let number = call .before .before .before .before .fact-number in
-    written (now (start .args .bundle)) _ _ _ (pre .0) _ _ _ (pre .1) (pre .2) _ _ _ _ _ (number .ensures .0)
-    (call .write-rounds .ensures)
+    let start = c .before .before .before .before .before .before .before .before .before .before .before in
+    written (now (start .args .bundle)) _ _ (start .pre .0) _ _ _ _ _
+    (c .before .before .before .before .before .before .before .before .fact-number .ensures) (c .before .before .before .before .write-rounds .ensures)
 
 pub write-slip-spec : {M : Type 1} → statement M
 write-slip-spec =
