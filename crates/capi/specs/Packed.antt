@@ -1,12 +1,13 @@
--- The packed answers: the search's promise of the five numbers that are packed, and the five numbers of the checker's answer.
+-- The packed answers: the promises of the search and of the checker, of the five numbers that are packed.
 use Prim.Native.Nat.{ℕ}
 use mathlib.Core.Path.{_≡_}
 use mathlib.Core.List.{List}
 use Rattle.answers.specs.Answer.{Outcome}
 use Rattle.answers.specs.Pack.{packed, unpacked}
-use Rattle.search.specs.Promise.{Question, Lent, Promise}
+use Rattle.bundle.specs.declared.question.Question.{Question}
+use Rattle.search.specs.Promise.{Lent, Promise}
 use Rattle.checker.specs.declared.check.Checked.{Checked}
-use Rattle.checker.specs.Checking.{numberOf, placeOf, linesNumber}
+use Rattle.checker.specs.Rows.{numberOf, placeOf, linesNumber, Checks}
 
 -- the five numbers that a result unpacks to keep the promise of the search, and the result is those five packed
 pub record PackedPromise (bytes : List ℕ) (q : Question) (before after : Lent) (result : ℕ) : Type 0 where
@@ -17,3 +18,9 @@ pub record PackedPromise (bytes : List ℕ) (q : Question) (before after : Lent)
 abbrev pub checkedOutcome : Checked → Outcome
 checkedOutcome answer =
     record { number = numberOf answer; place = placeOf answer; verdict = 0; rounds = 0; lines = linesNumber answer }
+
+-- the result is the checker's answer, packed
+pub record PackedCheck (bundle : List ℕ) (q : Question) (slip : List ℕ) (result : ℕ) : Type 0 where
+  pub answer : Checked
+  pub checks : Checks bundle q slip answer
+  pub packing : result ≡ packed (checkedOutcome answer)

@@ -1,10 +1,8 @@
 // The library for C: the search and the check under plain names, each with one packed number as its answer.
 // include/portertrunk.h says in words what is lent and what comes back.
-ghost use mathlib.Core.Path.{_≡_};
-ghost use Rattle.answers.specs.Pack.{packed};
-ghost use Rattle.search.specs.Promise.{question, lent};
-ghost use Rattle.checker.specs.Checking.{checkOf};
-ghost use Rattle.capi.specs.Packed.{PackedPromise, checkedOutcome};
+ghost use Rattle.bundle.specs.Question.{question};
+ghost use Rattle.search.specs.Promise.{lent};
+ghost use Rattle.capi.specs.Packed.{PackedPromise, PackedCheck};
 use answers::pack::pack;
 use answers::pack::pack_answer;
 use checker::check::Checked;
@@ -32,7 +30,7 @@ pub extern "C" fn portertrunk_search(
 // The packed answer of the check.
 #[no_mangle]
 pub extern "C" fn portertrunk_check(bundle: &[u8], d: u8, a: u8, r: u8, slip: &[u8]) -> u64
-    ensures { λ w. ⌜ w ≡ packed (checkedOutcome (checkOf (now (bundle .entry)) d a r (now (slip .entry)))) ⌝ }
+    ensures { λ w. ⌜ PackedCheck (now (bundle .entry)) (question d a r) (now (slip .entry)) w ⌝ }
 {
     let checked = check(bundle, d, a, r, slip);
     match checked {

@@ -1,6 +1,5 @@
 -- `capi::portertrunk_check` meets its contract.
 use borrow.Author.Needs.{needs}
-use mathlib.Core.Path.{sym, _∙_}
 use Rattle.capi.proofs.Unpacking.{packed-check}
 use Rattle.capi.proofs.portertrunk_check.Statement.{statement}
 use Rattle.capi.proofs.portertrunk_check.Tie as tie
@@ -21,10 +20,10 @@ pack-requires-2 : tie.Need-pack-requires-2
 pack-requires-2 c κs = search needs
 
 returns : tie.Need-returns
-returns c = packed-check _ _ _ (sym (c .before .before .checked .given .1) ∙ c .before .before .before .before .check .ensures) (c .pack .ensures)
+returns c = packed-check _ _ _ _ _ _ (c .before .before .checked .given .1) (c .before .before .before .before .check .ensures) (c .pack .ensures)
 
 returns-2 : tie.Need-returns-2
-returns-2 c = packed-check _ _ _ (sym (c .before .before .checked2 .given .1) ∙ c .before .before .before .before .check .ensures) (c .pack2 .ensures)
+returns-2 c = packed-check _ _ _ _ _ _ (c .before .before .checked2 .given .1) (c .before .before .before .before .check .ensures) (c .pack2 .ensures)
 
 pub portertrunk-check-spec : {M : Type 1} → statement M
 portertrunk-check-spec =
