@@ -17,9 +17,9 @@ module _ (bytes : List ℕ) (q : Question) (before after : Lent) (o : Outcome) (
   refused-due number place l = (
     λ e. exactly .0 (ap (λ (x : Outcome). x .number) e, ap (λ (x : Outcome). x .place) e),
     λ d.
-      let (number-is, place-is) = exactly .1 d in
-      let (_, kept) = judged-refused _ places numbers p (rw number-is l) in
-      kept .outcome ∙ rw (number-is, place-is),
+        let (number-is, place-is) = exactly .1 d in
+        let (_, kept) = judged-refused _ places numbers p (rw number-is l) in
+        kept .outcome ∙ rw (number-is, place-is),
   )
     where
       places : AllOnePlace (searchRows bytes q before)

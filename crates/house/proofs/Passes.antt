@@ -10,13 +10,17 @@ use mathlib.Core.List.{List, [], _∷_, _++_}
 use lib.ListN.{length, take, getD, length-take, length-drop}
 use lib.Seq.{take-suc, getD-take, length-take-le}
 use lib.Dec.{eqb}
-use Rattle.bundle.specs.declared.read.Reading.the-variants.{Accepted}
-use Rattle.bundle.specs.Lowest.{anyBelow}
-use Rattle.bundle.specs.Block.{byteAt, block, weighed, checkOf, storedCheck, checkWrong}
-use Rattle.bundle.specs.Layout.{entitiesOf, namesOf, recordsOf, firstByteWrong, firstWrong, blocksFor, recordsIn, besideByteWrong, besideWrong}
-use Rattle.bundle.specs.Reading.{lengthWrong, badRecord, badCheck, badBeside, readOf}
-use Rattle.bundle.proofs.Lowest.{Missed, lowest-none, any-none, any-false}
-use Rattle.bundle.proofs.Stages.{or-false, length-right, length-passed, check-passed, first-passed, count-passed, beside-passed, record-passed}
+use Rattle.base.specs.Byte.{byteAt}
+use Rattle.base.specs.Lowest.{anyBelow}
+use Rattle.base.proofs.Flags.{or-false}
+use Rattle.base.proofs.Lowest.{Missed, any-none, any-false}
+use Rattle.block.specs.Block.{block, weighed, checkOf, storedCheck, checkWrong}
+use Rattle.bundle.specs.declared.read.Sizes.{Sizes}
+use Rattle.bundle.specs.Layout.{lengthWrong, blocks, sizesIn, entitiesOf, firstByteWrong, firstWrong, blocksFor, recordsOf, recordsIn}
+use Rattle.bundle.specs.Layout.{besideByteWrong, besideWrong, badCheck, badBeside, badRecord}
+use Rattle.bundle.specs.Rows.{Accepts}
+use Rattle.bundle.proofs.Stages.{length-right}
+use Rattle.bundle.proofs.Passed.{passed-clear}
 use Rattle.house.specs.Cases.{checksOf}
 
 -- ---- the check
@@ -92,99 +96,93 @@ none-pass test bytes long h = sym (any-none (λ i. test i (byteAt bytes i)) 510 
 
 -- ---- the bundle
 
--- what the passes give of a bundle: what is wrong, and the numbers of blocks, entities, names and records
+-- what the passes give of a bundle: what is wrong, the number of blocks, and what block 0 says
 pub record Pass : Type 0 where
   pub wrong-length : Bool
   pub wrong-check : Bool
   pub wrong-first : Bool
   pub wrong-beside : Bool
   pub wrong-record : Bool
-  pub blocks : ℕ
-  pub entities : ℕ
-  pub names : ℕ
-  pub records : ℕ
+  pub count : ℕ
+  pub says : Sizes
 
 unfoldable pub pass : List ℕ → Pass
 pass bytes =
-    let blocks = length bytes / 512 in
     let first = block bytes 0 in
     record {
       wrong-length = lengthWrong (length bytes);
-      wrong-check = anyBelow (λ k. not (eqb (checkPass (block bytes k)) (storedCheck (block bytes k)))) blocks;
+      wrong-check = anyBelow (λ k. not (eqb (checkPass (block bytes k)) (storedCheck (block bytes k)))) (blocks bytes);
       wrong-first = anyFrom (firstByteWrong (entitiesOf first)) 0 (take 510 first);
       wrong-beside = anyBelow
-          (λ j. anyFrom (besideByteWrong j (recordsIn (recordsOf bytes) j)) 0 (take 510 (block bytes (j + 1)))) (blocks - 1);
+          (λ j. anyFrom (besideByteWrong j (recordsIn (recordsOf bytes) j)) 0 (take 510 (block bytes (j + 1)))) (blocks bytes - 1);
       wrong-record = anyBelow (badRecord bytes) (recordsOf bytes);
-      blocks = blocks;
-      entities = entitiesOf bytes;
-      names = namesOf bytes;
-      records = recordsOf bytes;
+      count = blocks bytes;
+      says = sizesIn bytes;
     }
 
 -- a bundle with nothing wrong
-abbrev pub passed : ℕ → ℕ → ℕ → Pass
-passed E R N = record {
+abbrev pub passed : Sizes → Pass
+passed s = record {
   wrong-length = false;
   wrong-check = false;
   wrong-first = false;
   wrong-beside = false;
   wrong-record = false;
-  blocks = blocksFor N;
-  entities = E;
-  names = R;
-  records = N;
+  count = blocksFor (s .records);
+  says = s;
 }
 
-module _ (bytes : List ℕ) (E R N : ℕ) (h : pass bytes ≡ passed E R N) where
-  abbrev count : ℕ
-  count = length bytes / 512
-
+module _ (bytes : List ℕ) (s : Sizes) (h : pass bytes ≡ passed s) where
   right-length : lengthWrong (length bytes) ≡ false
   unfolding pass
   right-length = ap (λ (x : Pass). x .wrong-length) h
 
-  whole : (1 ≤ count) × (512 * count ≤ length bytes)
+  whole : (1 ≤ blocks bytes) × (512 * blocks bytes ≤ length bytes)
   whole = omega (arith, length-right (length bytes) right-length)
 
-  right-checks : Missed (badCheck bytes) count
+  right-checks : Missed (badCheck bytes) (blocks bytes)
   unfolding pass checkWrong
   right-checks k l =
-      let right = any-false _ count (ap (λ (x : Pass). x .wrong-check) h) k l in
+      let right = any-false _ (blocks bytes) (ap (λ (x : Pass). x .wrong-check) h) k l in
       rw (check-pass (block bytes k) (block-whole bytes k (omega (arith, whole)))) right
 
   right-first : firstWrong (block bytes 0) ≡ false
   unfolding pass firstWrong
   right-first = none-pass _ (block bytes 0) (block-whole bytes 0 (omega (arith, whole))) (ap (λ (x : Pass). x .wrong-first) h)
 
-  right-beside : Missed (badBeside bytes) (count - 1)
+  right-beside : Missed (badBeside bytes) (blocks bytes - 1)
   unfolding pass besideWrong
   right-beside j l =
       none-pass _ (block bytes (j + 1)) (block-whole bytes (j + 1) (omega (arith, whole)))
-      (any-false _ (count - 1) (ap (λ (x : Pass). x .wrong-beside) h) j l)
+      (any-false _ (blocks bytes - 1) (ap (λ (x : Pass). x .wrong-beside) h) j l)
 
   right-records : Missed (badRecord bytes) (recordsOf bytes)
   unfolding pass
   right-records = any-false _ (recordsOf bytes) (ap (λ (x : Pass). x .wrong-record) h)
 
-  right-count : count ≡ blocksFor (recordsOf bytes)
+  said : s ≡ sizesIn bytes
   unfolding pass
-  right-count = cc (ap (λ (x : Pass). x .blocks) h, ap (λ (x : Pass). x .records) h)
+  said = sym (ap (λ (x : Pass). x .says) h)
+
+  right-count : blocks bytes ≡ blocksFor (recordsOf bytes)
+  unfolding pass
+  right-count = let records : s .records ≡ recordsOf bytes = cc said in ap (λ (x : Pass). x .count) h ∙ ap blocksFor records
 
   -- nothing wrong is what the reader accepts
-  pub pass-read : readOf bytes ≡ Accepted E R N
-  unfolding pass
-  pass-read =
-      let n = recordsOf bytes in
-      let all = record-passed bytes n n refl (lowest-none (badRecord bytes) n n (omega arith) (omega arith) right-records) (omega arith)
-      ∙ beside-passed bytes count (count - 1)
-      (lowest-none (badBeside bytes) (count - 1) (count - 1) (omega arith) (omega arith) right-beside) (omega arith)
-      ∙ count-passed bytes count right-count
-      ∙ first-passed bytes count right-first
-      ∙ check-passed bytes count count
-      (lowest-none (badCheck bytes) count count (omega arith) (omega arith) right-checks) (omega arith)
-      ∙ length-passed bytes right-length in
-      sym all ∙ cc (ap (λ (x : Pass). x .entities) h, ap (λ (x : Pass). x .names) h, ap (λ (x : Pass). x .records) h)
+  pub pass-accepts : Accepts bytes s
+  pass-accepts =
+      record {
+        clear = passed-clear bytes (record {
+          right-length = right-length;
+          right-checks = right-checks;
+          right-first = right-first;
+          right-count = right-count;
+          right-beside = right-beside;
+          right-records = right-records;
+        });
+        said = said;
+      }
 
   -- and the checks are those that the passes give
-  pub pass-checks : checksOf bytes count ≡ checksPass bytes count
-  pass-checks = checks-pass bytes count (whole .1)
+  pub pass-checks : checksOf bytes (blocks bytes) ≡ checksPass bytes (blocks bytes)
+  pass-checks = checks-pass bytes (blocks bytes) (whole .1)

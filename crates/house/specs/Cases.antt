@@ -2,20 +2,21 @@
 -- right, by the definitions that the promises cite. What is asked and what is to come out is said in RT0's list alone.
 use Prim.Native.Nat.{ℕ, zero, suc, _/_, _≤_}
 use mathlib.Core.Path.{_≡_}
-use mathlib.Core.Bool.{false}
 use mathlib.Core.List.{List, [], _∷_, _++_, zipWith}
 use lib.ListN.{length}
-use Rattle.rt0.specs.Credential.{Role, _·_, Credential, IsEntity, entityOf, nameOf}
+use Rattle.rt0.specs.Credential.{IsEntity, entityOf, nameOf}
 use Rattle.rt0.specs.Table.{Rounds}
-use Rattle.rt0.specs.Completion.{Open, openBy, Verdict, Answers}
+use Rattle.rt0.specs.Completion.{Verdict, Answers}
 use Rattle.rt0.specs.House.{Case, cases, presentBut}
-use Rattle.bundle.specs.declared.read.Reading.the-variants.{Accepted}
-use Rattle.bundle.specs.Block.{block, checkOf}
-use Rattle.bundle.specs.Record.{credentials}
-use Rattle.bundle.specs.Reading.{readOf}
-use Rattle.bundle.specs.Access.{shelves}
+use Rattle.block.specs.Block.{block, checkOf}
+use Rattle.bundle.specs.declared.read.Sizes.{Sizes}
+use Rattle.bundle.specs.declared.question.Question.{Question}
+use Rattle.bundle.specs.Layout.{entitiesOf, namesOf}
+use Rattle.bundle.specs.Held.{shelves, openOf, held as heldIn}
+use Rattle.bundle.specs.Question.{question, roleAsked, Asked}
 use Rattle.answers.specs.Answer.{Outcome, answered}
-use Rattle.search.specs.Promise.{Question, question, questionWrong, Lent, Promise}
+use Rattle.tables.specs.Sizes.{tableWords, slipBytes}
+use Rattle.search.specs.Promise.{Lent, Promise}
 use Rattle.house.specs.Bundles.{allPresent, guildAbsent, uplandAbsent, bothAbsent, removedAllPresent, removedGuildAbsent}
 use Rattle.house.specs.Bundles.{empty, emptyAbsent, inItself}
 
@@ -59,48 +60,38 @@ unfoldable pub checksOf : List ℕ → ℕ → List ℕ
 checksOf bytes zero = []
 checksOf bytes (suc k) = checksOf bytes k ++ (checkOf (block bytes k) ∷ [])
 
--- the number of its credentials, and the question
-abbrev pub numberHeld : CaseOnBytes → ℕ
-numberHeld k = length (k .case .held)
+-- what block 0 is to say, and the question
+abbrev pub sizes : CaseOnBytes → Sizes
+sizes k = record { entities = k .case .entities; names = k .case .names; records = length (k .case .held) }
 
 abbrev pub questionOf : CaseOnBytes → Question
 questionOf k = question (k .case .asked) (entityOf (k .case .into)) (nameOf (k .case .into))
 
--- the credentials and the open roles of the bundle, by its bytes; and the role that is asked about
-abbrev pub credentialsOf : CaseOnBytes → List Credential
-credentialsOf k = credentials (k .bundle) (numberHeld k)
-
-abbrev pub openOf : CaseOnBytes → Open
-openOf k = openBy (shelves (k .bundle))
-
-abbrev pub roleAsked : CaseOnBytes → Role
-roleAsked k = questionOf k .entity · questionOf k .name
-
 -- the word that answers the question, by RT0's membership and completions over what the bytes say
 abbrev pub Word : CaseOnBytes → Verdict → Type 0
-Word k v = Answers (k .case .entities) (k .case .names) (openOf k) (credentialsOf k) (roleAsked k) (questionOf k .person) v
+Word k v =
+    Answers (entitiesOf (k .bundle)) (namesOf (k .bundle)) (openOf (k .bundle)) (heldIn (k .bundle)) (roleAsked (questionOf k))
+    (questionOf k .person) v
 
 -- as much lent memory as the search asks for
 pub record Enough (m : Lent) : Type 0 where
-  pub sure : 512 ≤ length (m .sure)
-  pub possible : 512 ≤ length (m .possible)
-  pub slip : 61440 ≤ length (m .slip)
+  pub sure : tableWords ≤ length (m .sure)
+  pub possible : tableWords ≤ length (m .possible)
+  pub slip : slipBytes ≤ length (m .slip)
 
 -- what a case states is so of its bytes
 pub record RightOnBytes (k : CaseOnBytes) : Type 0 where
-  -- the reader accepts the bundle
-  pub read : readOf (k .bundle) ≡ Accepted (k .case .entities) (k .case .names) (numberHeld k)
+  -- the reader accepts the bundle, and the question is in range
+  pub asked : Asked (k .bundle) (sizes k) (questionOf k)
   -- the check of every block
   pub checks : checksOf (k .bundle) (length (k .bundle) / 512) ≡ k .checks
   -- what the records say
-  pub held : credentialsOf k ≡ k .case .held
+  pub held : heldIn (k .bundle) ≡ k .case .held
   -- what the marks say
   pub marks : (A : ℕ) → IsEntity (k .case .entities) A → shelves (k .bundle) A ≡ presentBut (k .case .absent) A
-  -- the question is in range
-  pub in-range : questionWrong (k .case .entities) (k .case .names) (questionOf k) ≡ false
   pub word : Word k (k .case .verdict)
   -- the least number of rounds
-  pub rounds : Rounds (credentialsOf k) (k .case .rounds)
+  pub rounds : Rounds (heldIn (k .bundle)) (k .case .rounds)
   -- and so every answer that keeps the search's promise with enough memory has this word and these rounds
   pub promised : (before after : Lent) (o : Outcome) → Enough before → Promise (k .bundle) (questionOf k) before after o
       → o ≡ answered (k .case .verdict) (k .case .rounds) (o .lines)

@@ -1,13 +1,14 @@
 -- The paper's slip for P1 and the three ways in which it breaks, each with what the checker is to answer.
 use Prim.Native.Nat.{ℕ}
-use mathlib.Core.Path.{_≡_}
 use mathlib.Core.List.{List, [], _∷_}
 use Rattle.rt0.specs.Slip.{Line, line}
 use Rattle.rt0.specs.Bytes.{bytesOf}
 use Rattle.rt0.specs.House.{Archive, Nina, signer}
+use Rattle.bundle.specs.declared.question.Question.{Question}
+use Rattle.bundle.specs.Question.{question}
 use Rattle.checker.specs.declared.check.Checked.{Checked}
 use Rattle.checker.specs.declared.check.Checked.the-variants.{Accepted, Refused}
-use Rattle.checker.specs.Checking.{checkOf}
+use Rattle.checker.specs.Rows.{Checks}
 use Rattle.house.specs.Bundles.{allPresent}
 
 pub record SlipCase : Type 0 where
@@ -27,9 +28,10 @@ slips =
     ∷ record { lines = slipWith 4 (line 4 6 5 3 0 ∷ []); answer = Refused 10 4 }
     ∷ []
 
--- the checker's answer on P1's bundle, asked whether Nina signs for the Archive
-abbrev pub checkedForP1 : List Line → Checked
-checkedForP1 lines = checkOf allPresent Nina Archive signer (bytesOf lines)
+-- whether Nina signs for the Archive
+abbrev pub askedOfP1 : Question
+askedOfP1 = question Nina Archive signer
 
+-- the answer is the checker's on P1's bundle
 abbrev pub RightAnswer : SlipCase → Type 0
-RightAnswer s = checkedForP1 (s .lines) ≡ s .answer
+RightAnswer s = Checks allPresent askedOfP1 (bytesOf (s .lines)) (s .answer)
