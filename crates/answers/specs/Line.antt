@@ -6,6 +6,8 @@ use mathlib.Core.Bool.{cond}
 use mathlib.Core.List.{List, [], _++_}
 use lib.ListN.{length, take, drop, replicate}
 use lib.Dec.{ltb}
+use Rattle.rt0.specs.Completion.{Verdict}
+use Rattle.rt0.specs.Completion as word
 use Rattle.answers.specs.declared.Answer.{Answer}
 use Rattle.answers.specs.declared.Answer.the-variants.{Yes, No, Unsure, Refused}
 use Rattle.answers.specs.declared.line.Text.{Text}
@@ -42,11 +44,17 @@ abbrev pub acceptedLine : ℕ → ℕ → ℕ → List ℕ
 acceptedLine entities names records =
     ACCEPTED ++ space ++ decimal entities ++ space ++ decimal names ++ space ++ decimal records ++ newline
 
--- `YES n`, `NO n` or `UNSURE n`, n being the rounds, or a refusal's line
+-- `YES n`, `NO n` or `UNSURE n`, n being the rounds
+abbrev pub answerLine : Verdict → ℕ → List ℕ
+answerLine word.YES rounds = YES ++ space ++ decimal rounds ++ newline
+answerLine word.NO rounds = NO ++ space ++ decimal rounds ++ newline
+answerLine word.UNSURE rounds = UNSURE ++ space ++ decimal rounds ++ newline
+
+-- the line of an answer, or a refusal's line
 abbrev pub lineOf : Answer → List ℕ
-lineOf (Yes rounds lines) = YES ++ space ++ decimal rounds ++ newline
-lineOf (No rounds) = NO ++ space ++ decimal rounds ++ newline
-lineOf (Unsure rounds) = UNSURE ++ space ++ decimal rounds ++ newline
+lineOf (Yes rounds lines) = answerLine word.YES rounds
+lineOf (No rounds) = answerLine word.NO rounds
+lineOf (Unsure rounds) = answerLine word.UNSURE rounds
 lineOf (Refused number place) = refusalLine number place
 
 -- how many bytes a text has room for

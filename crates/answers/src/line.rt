@@ -19,12 +19,6 @@ impl Text {
     pub const CAPACITY: usize = 64;
 }
 
-// What a program says: on standard output and on standard error.
-pub struct Said {
-    pub out: Text,
-    pub problem: Text,
-}
-
 // A text that shows nothing.
 pub fn empty() -> Text
     ensures { λ r. ⌜ Holds r [] × (r .length ≡ 0) ⌝ }

@@ -7,21 +7,23 @@ ghost use Prim.Native.Nat.{_≤_, min};
 ghost use lib.ListN.{length};
 ghost use Rattle.answers.specs.Answer.{outcomeOf};
 ghost use Rattle.search.specs.Promise.{Promise, lent};
-ghost use Rattle.ask.specs.Input.{questionBytes, longestInput, bundleOf, questionOf};
-ghost use Rattle.ask.specs.Prints.{Enough};
-ghost use Rattle.ask.specs.Says.{Printed, Read, Right};
+ghost use Rattle.said.specs.Said.{HoldsAllowed, Read, Rightly};
+ghost use Rattle.asked.specs.Input.{questionBytes, longestInput, bundleOf, questionOf};
+ghost use Rattle.asked.specs.Prints.{Prints, unreadable};
+ghost use Rattle.ask.specs.Memory.{Enough};
 use answers::Answer;
-use answers::line::Said;
 use answers::line::Text;
 use answers::line::empty;
 use answers::line::line;
 use answers::line::message;
 use answers::line::refusal;
-use bundle::block::byte;
+use base::byte;
 use input::Input;
 use input::fill;
 use libc::STDERR_FILENO;
 use libc::STDOUT_FILENO;
+use said::Said;
+use said::write_text;
 use search::search;
 
 // The memory of the program.
@@ -60,8 +62,8 @@ fn ask(input: &[u8], sure: &mut [u32], possible: &mut [u32], slip: &mut [u8]) ->
 
 // The line of the answer, found with enough lent memory.
 fn line_with(input: &[u8], sure: &mut [u32], possible: &mut [u32], slip: &mut [u8]) -> Text
-    requires { ⌜ Enough (lent (now sure) (now possible) (now slip)) ⌝ }
-    ensures { λ r. ⌜ Printed (now (input .entry)) r ⌝ }
+    requires { ⌜ Enough (now sure) (now possible) (now slip) ⌝ }
+    ensures { λ r. ⌜ HoldsAllowed (Prints (now (input .entry))) r ⌝ }
 {
     let answer = ask(input, sure, possible, slip);
     line(answer)
@@ -69,7 +71,7 @@ fn line_with(input: &[u8], sure: &mut [u32], possible: &mut [u32], slip: &mut [u
 
 // The line of the answer to these bytes.
 fn line_for(input: &[u8]) -> Text
-    ensures { λ r. ⌜ Printed (now (input .entry)) r ⌝ }
+    ensures { λ r. ⌜ HoldsAllowed (Prints (now (input .entry))) r ⌝ }
 {
     let mut sure = [0u32; Memory::WORDS];
     let mut possible = [0u32; Memory::WORDS];
@@ -80,7 +82,7 @@ fn line_for(input: &[u8]) -> Text
 // What is said of a buffer that standard input was read into.
 fn say(got: Input, buffer: &[u8]) -> Said
     requires { ⌜ (longestInput ≤ length (now buffer)) × Read got (now buffer) ⌝ }
-    ensures { λ r. ⌜ Right got (now (buffer .entry)) r ⌝ }
+    ensures { λ r. ⌜ Rightly Prints unreadable got (now (buffer .entry)) r ⌝ }
 {
     match got {
         Input::Whole(n) => Said {
@@ -100,16 +102,10 @@ fn say(got: Input, buffer: &[u8]) -> Said
 
 // Writes what is rightly said of the buffer.
 fn write(said: Said, got: Input, buffer: &[u8])
-    requires { ⌜ Right got (now buffer) said ⌝ }
+    requires { ⌜ Rightly Prints unreadable got (now buffer) said ⌝ }
 {
-    let out = said.out;
-    let shown = out.bytes;
-    let size = out.length;
-    io::write_all(STDOUT_FILENO, &shown[..size]);
-    let problem = said.problem;
-    let told = problem.bytes;
-    let length = problem.length;
-    io::write_all(STDERR_FILENO, &told[..length]);
+    write_text(STDOUT_FILENO, said.out);
+    write_text(STDERR_FILENO, said.problem);
 }
 
 fn main() {

@@ -1,2 +1,2 @@
--- The laws that the program's functions cite. Saying: what is rightly said of a buffer.
-pub mod Saying
+-- The laws that the program's functions cite.
+pub mod Prints

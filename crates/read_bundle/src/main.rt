@@ -5,20 +5,23 @@
 // bundle. Where standard input cannot be read to its end it prints no answer, but a message on standard error.
 ghost use Prim.Native.Nat.{_≤_};
 ghost use lib.ListN.{length};
-ghost use Rattle.answers.specs.Line.{Holds};
-ghost use Rattle.read_bundle.specs.Prints.{longestBundle, printed, Read, Right};
-use answers::line::Said;
+ghost use Rattle.bundle.specs.Rows.{Accepts};
+ghost use Rattle.said.specs.Said.{HoldsAllowed, Read, Rightly};
+ghost use Rattle.read_bundle.specs.Prints.{longestBundle, Prints, unreadable};
 use answers::line::Text;
 use answers::line::accepted;
 use answers::line::empty;
 use answers::line::message;
 use answers::line::refusal;
 use bundle::read::Reading;
+use bundle::read::Sizes;
 use bundle::read::read;
 use input::Input;
 use input::fill;
 use libc::STDERR_FILENO;
 use libc::STDOUT_FILENO;
+use said::Said;
+use said::write_text;
 
 // The memory of the program.
 struct Memory;
@@ -28,16 +31,23 @@ impl Memory {
     const BUFFER: usize = 4096;
 }
 
+// The line of an accepted bundle: each of its sizes is below 256.
+fn line_of(input: &[u8], sizes: Sizes) -> Text
+    requires { ⌜ Accepts (now input) sizes ⌝ }
+    ensures { λ r. ⌜ HoldsAllowed (Prints (now (input .entry))) r ⌝ }
+{
+    let entities = sizes.entities as u8;
+    let names = sizes.names as u8;
+    let records = sizes.records as u8;
+    accepted(entities, names, records)
+}
+
 // The line of the reader's answer to these bytes.
 fn line_for(input: &[u8]) -> Text
-    ensures { λ r. ⌜ Holds r (printed (now (input .entry))) ⌝ }
+    ensures { λ r. ⌜ HoldsAllowed (Prints (now (input .entry))) r ⌝ }
 {
     match read(input) {
-        Reading::Accepted {
-            entities,
-            names,
-            records,
-        } => accepted(entities, names, records),
+        Reading::Accepted(sizes) => line_of(input, sizes),
         Reading::Refused { number, place } => refusal(number, place),
     }
 }
@@ -45,7 +55,7 @@ fn line_for(input: &[u8]) -> Text
 // What is said of a buffer that standard input was read into.
 fn say(got: Input, buffer: &[u8]) -> Said
     requires { ⌜ (longestBundle ≤ length (now buffer)) × Read got (now buffer) ⌝ }
-    ensures { λ r. ⌜ Right got (now (buffer .entry)) r ⌝ }
+    ensures { λ r. ⌜ Rightly Prints unreadable got (now (buffer .entry)) r ⌝ }
 {
     match got {
         Input::Whole(n) => Said {
@@ -65,16 +75,10 @@ fn say(got: Input, buffer: &[u8]) -> Said
 
 // Writes what is rightly said of the buffer.
 fn write(said: Said, got: Input, buffer: &[u8])
-    requires { ⌜ Right got (now buffer) said ⌝ }
+    requires { ⌜ Rightly Prints unreadable got (now buffer) said ⌝ }
 {
-    let out = said.out;
-    let shown = out.bytes;
-    let size = out.length;
-    io::write_all(STDOUT_FILENO, &shown[..size]);
-    let problem = said.problem;
-    let told = problem.bytes;
-    let length = problem.length;
-    io::write_all(STDERR_FILENO, &told[..length]);
+    write_text(STDOUT_FILENO, said.out);
+    write_text(STDERR_FILENO, said.problem);
 }
 
 fn main() {

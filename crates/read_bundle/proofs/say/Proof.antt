@@ -3,7 +3,8 @@ use borrow.Author.Needs.{needs}
 use mathlib.Core.Path.{sym}
 use lib.Seq.{length-take-le}
 use Rattle.input.proofs.Pieces.{whole-fits}
-use Rattle.read_bundle.proofs.Saying.{said-whole, said-longer, said-failed}
+use Rattle.said.proofs.Saying.{said-whole, said-longer, said-failed}
+use Rattle.read_bundle.proofs.Prints.{prints-longer}
 use Rattle.read_bundle.proofs.say.Statement.{statement}
 use Rattle.read_bundle.proofs.say.Tie as tie
 
@@ -41,13 +42,13 @@ message-requires : tie.Need-message-requires
 message-requires c κs = search needs
 
 returns : tie.Need-returns
-returns c = said-whole _ _ _ _ (c .before .before .before .before .got .given .1) (c .before .line-for .ensures) (c .empty .ensures .0)
+returns c = said-whole _ _ _ _ _ _ (c .before .before .before .before .got .given .1) (c .before .line-for .ensures) (c .empty .ensures .0)
 
 returns-2 : tie.Need-returns-2
-returns-2 c = said-longer _ _ _ (c .before .before .enum-told .given .1) (c .before .before .before .before .before .pre .0) (c .before .refusal .ensures) (c .empty2 .ensures .0)
+returns-2 c = said-longer _ _ _ _ _ _ _ prints-longer (c .before .before .before .before .before .pre .0) (c .before .before .enum-told .given .1) (c .before .refusal .ensures) (c .empty2 .ensures .0)
 
 returns-3 : tie.Need-returns-3
-returns-3 c = said-failed _ _ _ (c .before .before .before .enum-told2 .given .1) (c .before .before .empty3 .ensures .0) (c .message .ensures)
+returns-3 c = said-failed _ _ _ _ _ (c .before .before .before .enum-told2 .given .1) (c .before .before .empty3 .ensures .0) (c .message .ensures)
 
 pub say-spec : {M : Type 1} → statement M
 say-spec =

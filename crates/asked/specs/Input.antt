@@ -2,8 +2,9 @@
 use Prim.Native.Nat.{ℕ, _+_}
 use mathlib.Core.List.{List}
 use lib.ListN.{drop}
-use Rattle.bundle.specs.Block.{byteAt}
-use Rattle.search.specs.Promise.{Question, question}
+use Rattle.base.specs.Byte.{byteAt}
+use Rattle.bundle.specs.declared.question.Question.{Question}
+use Rattle.bundle.specs.Question.{question}
 
 -- the bytes of a question before its bundle
 abbrev pub questionBytes : ℕ

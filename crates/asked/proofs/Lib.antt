@@ -1,0 +1,4 @@
+-- The laws that the program `ask` cites. Input: the part of the input behind the question is the bundle. Prints: which line an input has, and
+-- that it has only one.
+pub mod Input
+pub mod Prints
