@@ -26,6 +26,13 @@ use said::Said;
 use said::write_text;
 use search::search;
 
+// The bytes of a question before its bundle: the person, the entity and the role name.
+struct Question;
+
+impl Question {
+    const BYTES: usize = 3;
+}
+
 // The memory of the program.
 struct Memory;
 
@@ -44,7 +51,11 @@ impl Memory {
 fn bundle_start(size: usize) -> usize
     ensures { λ r. ⌜ (r ≡ min questionBytes size) × (r ≤ size) ⌝ }
 {
-    if size < 3 { size } else { 3 }
+    if size < Question::BYTES {
+        size
+    } else {
+        Question::BYTES
+    }
 }
 
 // The answer to the bytes of a question: the person, the entity, the role name, then the bundle.

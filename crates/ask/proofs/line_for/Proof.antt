@@ -1,4 +1,5 @@
 -- `ask::line_for` meets its contract: the memory that it lends is enough.
+use native.Mathlib.Omega.{arith}
 use borrow.Author.Needs.{needs}
 use Rattle.ask.proofs.line_for.Statement.{statement}
 use Rattle.ask.proofs.line_for.Tie as tie
@@ -13,7 +14,7 @@ slice-aggregate-line-with-3 : tie.Need-slice-aggregate-line-with-3
 slice-aggregate-line-with-3 c = search needs
 
 line-with-requires : tie.Need-line-with-requires
-line-with-requires c κs = search needs
+line-with-requires c κs = record { sure = omega arith; possible = omega arith; slip = omega arith }
 
 returns : tie.Need-returns
 returns c = search needs

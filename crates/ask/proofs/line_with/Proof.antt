@@ -24,10 +24,12 @@ same-length-3 c = search needs
 returns : tie.Need-returns
 returns c =
     let answered = c .before .before .before .before .before .before .before in
+    let start = answered .before .before .before .before .before .before .before .before in
+    let answer = answered .ask .result in
     record {
-      shown = lineOf (answered .ask .result);
+      shown = lineOf answer;
       holds = c .line .ensures;
-      prints = prints-answer (now (c .before .before .before .before .before .before .before .before .before .before .before .before .before .before .before .args .input)) _ _ (answered .ask .result) (c .before .before .before .before .before .before .before .before .before .before .before .before .before .before .before .pre) (answered .ask .ensures);
+      prints = prints-answer (now (start .args .input)) _ _ answer (start .pre) (answered .ask .ensures);
     }
 
 pub line-with-spec : {M : Type 1} → statement M

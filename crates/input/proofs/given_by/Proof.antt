@@ -18,7 +18,8 @@ count-requires c κs = search needs
 returns-3 : tie.Need-returns-3
 returns-3 c =
     let start = c .before .before .before .before in
-    given-some (start .args .answer) (length (now (start .args .space))) _ (search needs) (c .before .before .if1 .left) (c .before .if2 .left) (c .count .ensures .1)
+    given-some (start .args .answer) (length (now (start .args .space))) _ (search needs) (c .before .before .if1 .left)
+    (c .before .if2 .left) (c .count .ensures .1)
 
 pub given-by-spec : {M : Type 1} → statement M
 given-by-spec = tie.close (tie.spec returns returns-2 count-requires returns-3)

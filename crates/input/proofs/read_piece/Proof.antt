@@ -32,7 +32,8 @@ abbrev filled : tie.After-known-told → List ℕ
 filled c = read c .read-some .last .0 ++ drop (most c) (space c)
 
 -- what came is at least a byte and no more than was asked for, and stands at the start of the space
-came-fits : (c : tie.After-known-told) → (0 < count c) × (count c ≤ most c) × (count c ≤ length (filled c)) × (length (take (count c) (filled c)) ≡ count c)
+came-fits : (c : tie.After-known-told)
+    → (0 < count c) × (count c ≤ most c) × (count c ≤ length (filled c)) × (length (take (count c) (filled c)) ≡ count c)
 came-fits c =
     let answer = c .before .before .before .before .before in
     let given = rw (c .before .n .given .1) at (answer .read-some .ensures) in

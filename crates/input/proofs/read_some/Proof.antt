@@ -19,7 +19,8 @@ returns : tie.Need-returns
 returns c =
     let read = c .before .before .before .before in
     let start = read .before .before .before in
-    given-held _ (read .read .result) (length (now (start .args .space))) _ (search needs) (read .read .kept .1 .0) (start .pre) (read .read .ensures) (c .given-by .ensures)
+    given-held _ (read .read .result) (length (now (start .args .space))) _ (search needs) (read .read .kept .1 .0) (start .pre)
+    (read .read .ensures) (c .given-by .ensures)
 
 pub read-some-spec : {M : Type 1} → statement M
 read-some-spec = tie.close (tie.spec read-requires given-by-requires same-length returns)

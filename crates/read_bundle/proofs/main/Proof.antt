@@ -1,4 +1,5 @@
 -- `read_bundle::main` is safe: its buffer has room for the longest bundle, and what it writes is rightly said of that buffer.
+use native.Mathlib.Omega.{arith}
 use borrow.Author.Needs.{needs}
 use Rattle.read_bundle.proofs.main.Statement.{statement}
 use Rattle.read_bundle.proofs.main.Tie as tie
@@ -13,13 +14,13 @@ slice-aggregate-say : tie.Need-slice-aggregate-say
 slice-aggregate-say c = search needs
 
 say-requires : tie.Need-say-requires
-say-requires c κs = search needs
+say-requires c κs = (omega (arith, c .before .before .fill .kept .0), (_, c .before .before .fill .ensures))
 
 slice-aggregate-write : tie.Need-slice-aggregate-write
 slice-aggregate-write c = search needs
 
 write-requires : tie.Need-write-requires
-write-requires c κs = search needs
+write-requires c κs = c .before .say .ensures
 
 returns : tie.Need-returns
 returns c = search needs

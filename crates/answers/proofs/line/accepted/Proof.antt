@@ -11,8 +11,11 @@ use Rattle.answers.proofs.line.accepted.Tie as tie
 -- the numbers of block 0 have at most five digits each
 digits-of-all : (start : tie.Start) →
     (length (decimal (start .args .entities)) ≤ 5) × (length (decimal (start .args .names)) ≤ 5) × (length (decimal (start .args .records)) ≤ 5)
-digits-of-all start =
-    (five-digits (start .args .entities) (omega arith), five-digits (start .args .names) (omega arith), five-digits (start .args .records) (omega arith))
+digits-of-all start = (
+  five-digits (start .args .entities) (omega arith),
+  five-digits (start .args .names) (omega arith),
+  five-digits (start .args .records) (omega arith),
+)
 
 empty-requires : tie.Need-empty-requires
 empty-requires c κs = search needs
