@@ -12,7 +12,7 @@ use Rattle.libc.specs.Io.{Moved}
 use Rattle.io.specs.Counts.{clamped}
 use Rattle.input.specs.declared.Piece.{Piece}
 use Rattle.input.specs.declared.Piece.the-variants.{Bytes, End, Failed as PieceFailed}
-use Rattle.input.specs.Input.{failure, Says, givenBy, Given, saidPast}
+use Rattle.input.specs.Input.{failure, Says, givenBy, Given, saidAfter}
 
 -- an answer as a word of 64 bits, read again as signed
 abbrev pub held : ℤ → ℤ
@@ -48,8 +48,8 @@ given-held piece answer most size stays e some m given = rw (given, stays, e) (g
 pub failure-held : (answer : ℤ) → answer ≡ failure → held answer ≡ failure
 failure-held answer e = rw e
 
--- what is said past the end of a full buffer
-pub said-past : (more : Piece) (most size : ℕ) → Given most more → Says (saidPast more size) size size
-said-past (Bytes n) most size g = refl
-said-past End most size g = refl
-said-past (PieceFailed answer) most size g = g
+-- what is said of a full buffer
+pub said-full : (more : Piece) (most size : ℕ) → Given most more → Says (saidAfter more size) size size
+said-full (Bytes n) most size g = refl
+said-full End most size g = refl
+said-full (PieceFailed answer) most size g = g

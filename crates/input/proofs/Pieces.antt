@@ -5,13 +5,12 @@ use native.Mathlib.Omega.{arith}
 use mathlib.Core.Path.{_≡_, refl, ap, sym, subst, _∙_}
 use mathlib.Core.List.{List, [], _∷_, _++_, append-nil, append-assoc}
 use lib.ListN.{length, take, drop, length-append, length-drop, drop-of-length-le}
-use lib.IntN.{ℤ}
 use lib.Seq.{take-at, take-all, take-length, drop-append-add, drop-drop}
 use Rattle.input.specs.declared.Input.{Input}
 use Rattle.input.specs.declared.Input.the-variants.{Whole}
 use Rattle.input.specs.declared.Piece.{Piece}
 use Rattle.input.specs.declared.Piece.the-variants.{Bytes, End, Failed as PieceFailed}
-use Rattle.input.specs.Input.{joined, NoneEmpty, failure, Says, Came, Filled, placedAt, OneMore, Added}
+use Rattle.input.specs.Input.{joined, NoneEmpty, Says, Came, Filled, saidAfter, placedAt, OneMore, Added}
 
 -- a piece more at the end
 joined-more : (pieces : List (List ℕ)) (piece : List ℕ) → joined (pieces ++ piece ∷ []) ≡ joined pieces ++ piece
@@ -76,15 +75,14 @@ came-more {done} {n} {before} {now} {after} c m =
       placed = m .placed ∙ rw (m .size, front, rest, joined-more (c .pieces) (m .piece), append-assoc);
     }
 
--- what had come, and what one read did: a piece more, or nothing more where the input has ended or the read failed
-module _ {done : ℕ} {before now after : List ℕ} {read : Piece} (c : Came done before now) where
-  pub came-piece : {n : ℕ} → read ≡ Bytes n → Added done now after read → Came (done + n) before after
-  came-piece e a = came-more c (rw e at a)
+-- a piece more
+pub came-piece : {done n : ℕ} {before now after : List ℕ} {piece : Piece} → Came done before now → piece ≡ Bytes n
+    → Added done now after piece → Came (done + n) before after
+came-piece c e a = came-more c (rw e at a)
 
-  pub came-ended : read ≡ End → Added done now after read → Came done before after
-  came-ended e a = came-same c (rw e at a)
-
-  pub came-failed : {answer : ℤ} → read ≡ PieceFailed answer → Added done now after read → Came done before after × (answer ≡ failure)
-  came-failed {answer} e a =
-      let f : (after ≡ now) × (answer ≡ failure) = rw e at a in
-      (came-same c (f .0), f .1)
+-- no piece more: the input has ended, or the read failed
+pub filled-before : {done : ℕ} {before now after : List ℕ} (piece : Piece) → ((n : ℕ) → piece ≡ Bytes n → ⊥) → Came done before now
+    → Added done now after piece → Filled before after (saidAfter piece done)
+filled-before (Bytes n) none c a = absurd (none n refl)
+filled-before End none c a = record { count = _; came = came-same c a; says = refl }
+filled-before (PieceFailed answer) none c a = record { count = _; came = came-same c (a .0); says = a .1 }

@@ -61,11 +61,11 @@ Given most (Bytes n) = (0 < n) × (n ≤ most)
 Given most End = Unit {0}
 Given most (PieceFailed answer) = answer ≡ failure
 
--- what is said of a full buffer of that size, by what one read more gave
-abbrev pub saidPast : Piece → ℕ → Input
-saidPast (Bytes n) size = Longer
-saidPast End size = Whole size
-saidPast (PieceFailed answer) size = Failed answer
+-- what is said by what the last read gave, with so many bytes before it; where it gave bytes, there was no room for them
+abbrev pub saidAfter : Piece → ℕ → Input
+saidAfter (Bytes n) done = Longer
+saidAfter End done = Whole done
+saidAfter (PieceFailed answer) done = Failed answer
 
 -- a buffer with a piece behind its first `done` bytes, and every other byte as it was
 abbrev pub placedAt : ℕ → List ℕ → List ℕ → List ℕ

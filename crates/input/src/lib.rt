@@ -5,7 +5,7 @@
 ghost use Prim.Native.Nat.{_+_, _<_, _≤_, min};
 ghost use mathlib.Core.Path.{_≡_};
 ghost use lib.ListN.{length};
-ghost use Rattle.input.specs.Input.{Filled, Added, Given, Says, givenBy, placedAt, saidPast};
+ghost use Rattle.input.specs.Input.{Filled, Added, Given, Says, givenBy, placedAt, saidAfter};
 use libc::STDIN_FILENO;
 
 // What reading gave.
@@ -93,13 +93,14 @@ fn next_piece(buffer: &mut [u8], done: usize) -> Piece
     read_piece(&mut space, buffer, done)
 }
 
-// What is said of a full buffer of that size, by what one read more gave.
-fn said_past(more: Piece, size: usize) -> Input
-    ensures { λ r. ⌜ r ≡ saidPast more size ⌝ }
+// What is said of the input by what the last read gave, with so many bytes before it. Bytes that the buffer has no room for say that the
+// input is longer.
+fn said_after(last: Piece, done: usize) -> Input
+    ensures { λ r. ⌜ r ≡ saidAfter last done ⌝ }
 {
-    match more {
+    match last {
         Piece::Bytes(_) => Input::Longer,
-        Piece::End => Input::Whole(size),
+        Piece::End => Input::Whole(done),
         Piece::Failed(answer) => Input::Failed(answer),
     }
 }
@@ -109,7 +110,7 @@ fn past_the_end(size: usize) -> Input
     ensures { λ r. ⌜ Says r size size ⌝ }
 {
     let mut more = [0u8; 1];
-    said_past(read_some(&mut more), size)
+    said_after(read_some(&mut more), size)
 }
 
 // Reads standard input into the buffer, until it ends, is longer than the buffer or a read fails.
@@ -118,17 +119,11 @@ pub fn fill(buffer: &mut [u8]) -> Input
 {
     let mut done: usize = 0;
     while done < buffer.len() {
-        match next_piece(buffer, done) {
-            Piece::Bytes(n) => {
-                done += n;
-            }
-            Piece::End => {
-                return Input::Whole(done);
-            }
-            Piece::Failed(answer) => {
-                return Input::Failed(answer);
-            }
-        }
+        let piece = next_piece(buffer, done);
+        let Piece::Bytes(n) = piece else {
+            return said_after(piece, done);
+        };
+        done += n;
     }
     past_the_end(done)
 }

@@ -1,6 +1,6 @@
 -- `input::past_the_end` meets its contract.
 use borrow.Author.Needs.{needs}
-use Rattle.input.proofs.Answers.{said-past}
+use Rattle.input.proofs.Answers.{said-full}
 use Rattle.input.proofs.past_the_end.Statement.{statement}
 use Rattle.input.proofs.past_the_end.Tie as tie
 
@@ -10,12 +10,12 @@ slice-aggregate-read-some c = search needs
 read-some-requires : tie.Need-read-some-requires
 read-some-requires c κs = search needs
 
-said-past-requires : tie.Need-said-past-requires
-said-past-requires c κs = search needs
+said-after-requires : tie.Need-said-after-requires
+said-after-requires c κs = search needs
 
 returns : tie.Need-returns
-returns c = rw (c .said-past .ensures) (said-past (c .before .before .read-some .result) 1 _ (c .before .before .read-some .ensures))
+returns c = rw (c .said-after .ensures) (said-full (c .before .before .read-some .result) 1 _ (c .before .before .read-some .ensures))
 
 pub past-the-end-spec : {M : Type 1} → statement M
 past-the-end-spec =
-    tie.close (tie.spec slice-aggregate-read-some read-some-requires said-past-requires returns)
+    tie.close (tie.spec slice-aggregate-read-some read-some-requires said-after-requires returns)
