@@ -1,1 +1,2 @@
--- The program's functions cite the laws of `asked` and of `said`.
+-- The laws of the program besides those of `asked` and `said`. Answered: what the search answers is what may be printed.
+pub mod Answered

@@ -7,10 +7,10 @@ ghost use Prim.Native.Nat.{_≤_, min};
 ghost use lib.ListN.{length};
 ghost use Rattle.answers.specs.Answer.{outcomeOf};
 ghost use Rattle.search.specs.Promise.{Promise, lent};
+ghost use Rattle.search.specs.Enough.{Enough};
 ghost use Rattle.said.specs.Said.{HoldsAllowed, Read, Rightly};
 ghost use Rattle.asked.specs.Input.{questionBytes, longestInput, bundleOf, questionOf};
 ghost use Rattle.asked.specs.Prints.{Prints, unreadable};
-ghost use Rattle.ask.specs.Memory.{Enough};
 use answers::Answer;
 use answers::line::Text;
 use answers::line::empty;
@@ -25,6 +25,8 @@ use libc::STDOUT_FILENO;
 use said::Said;
 use said::write_text;
 use search::search;
+use search::slip::Slip;
+use tables::table::Table;
 
 // The bytes of a question before its bundle: the person, the entity and the role name.
 struct Question;
@@ -39,12 +41,6 @@ struct Memory;
 impl Memory {
     // The bytes of the buffer for standard input.
     const BUFFER: usize = 4096;
-
-    // The words of each table that the search is lent.
-    const WORDS: usize = 512;
-
-    // The bytes of the slip buffer that the search is lent: 7,680 lines of 8.
-    const SLIP_BYTES: usize = 61440;
 }
 
 // Where the bundle starts: behind three bytes, or at the end where there are fewer.
@@ -73,7 +69,7 @@ fn ask(input: &[u8], sure: &mut [u32], possible: &mut [u32], slip: &mut [u8]) ->
 
 // The line of the answer, found with enough lent memory.
 fn line_with(input: &[u8], sure: &mut [u32], possible: &mut [u32], slip: &mut [u8]) -> Text
-    requires { ⌜ Enough (now sure) (now possible) (now slip) ⌝ }
+    requires { ⌜ Enough (lent (now sure) (now possible) (now slip)) ⌝ }
     ensures { λ r. ⌜ HoldsAllowed (Prints (now (input .entry))) r ⌝ }
 {
     let answer = ask(input, sure, possible, slip);
@@ -84,9 +80,9 @@ fn line_with(input: &[u8], sure: &mut [u32], possible: &mut [u32], slip: &mut [u
 fn line_for(input: &[u8]) -> Text
     ensures { λ r. ⌜ HoldsAllowed (Prints (now (input .entry))) r ⌝ }
 {
-    let mut sure = [0u32; Memory::WORDS];
-    let mut possible = [0u32; Memory::WORDS];
-    let mut slip = [0u8; Memory::SLIP_BYTES];
+    let mut sure = [0u32; Table::WORDS];
+    let mut possible = [0u32; Table::WORDS];
+    let mut slip = [0u8; Slip::BYTES];
     line_with(input, &mut sure, &mut possible, &mut slip)
 }
 

@@ -5,7 +5,6 @@ use mathlib.Core.Path.{_≡_, refl, sym, ap, _∙_}
 use mathlib.Core.Bool.{Bool, false}
 use mathlib.Core.List.{List, map, zipWith, Memᴰ·map}
 use lib.ListN.{length}
-use borrow.Author.Tests.{le-ltb}
 use Rattle.rt0.specs.Credential.{Role, _·_, entityOf, nameOf, IsEntity, Credential, _∈_}
 use Rattle.rt0.specs.Completion.{Shelf, openBy}
 use Rattle.rt0.specs.Table.{Rounds}
@@ -26,11 +25,11 @@ use Rattle.bundle.specs.Held.{shelves, credentials, held as heldIn, openOf}
 use Rattle.bundle.specs.Question.{roleAsked, questionWrong}
 use Rattle.bundle.proofs.Questions.{asked-right}
 use Rattle.answers.specs.Answer.{Outcome, answered}
-use Rattle.tables.specs.Sizes.{tableWords, slipBytes}
-use Rattle.search.specs.Promise.{Lent, lentWrong, searchRows, Promise}
-use Rattle.search.proofs.Judging.{none-applies}
+use Rattle.search.specs.Promise.{Lent, searchRows, Promise}
+use Rattle.search.specs.Enough.{Enough}
+use Rattle.search.proofs.Judging.{enough-right, none-applies}
 use Rattle.house.specs.Bundles.{filled, recordBytes, firstBlock, recordBlock, houseRecords, whole, removed}
-use Rattle.house.specs.Cases.{CaseOnBytes, bundles, casesOnBytes, sizes, questionOf, Word, Enough, RightOnBytes}
+use Rattle.house.specs.Cases.{CaseOnBytes, bundles, casesOnBytes, sizes, questionOf, Word, RightOnBytes}
 use Rattle.house.proofs.Computed.{same-at}
 use Rattle.house.proofs.Passes.{weighFrom, checkPass, checksPass, anyFrom, Pass, pass, passed, pass-accepts, pass-checks}
 
@@ -94,15 +93,8 @@ module _ (k : CaseOnBytes) (right : RightCase (k .case)) (accepts : Accepts (k .
   promised in-range before after o enough (refused d _) =
       absurd (due-clear (searchRows (k .bundle) (questionOf k) before) (o .number) (o .place) none d)
     where
-      memory : lentWrong before ≡ false
-      memory = rw (
-        le-ltb (length (before .sure)) tableWords (enough .sure),
-        le-ltb (length (before .possible)) tableWords (enough .possible),
-        le-ltb (length (before .slip)) slipBytes (enough .slip),
-      )
-
       none : Clear (searchRows (k .bundle) (questionOf k) before)
-      none = none-applies (k .bundle) (questionOf k) before (sizes k) accepts (rw (entities, names) in-range) memory
+      none = none-applies (k .bundle) (questionOf k) before (sizes k) accepts (rw (entities, names) in-range) (enough-right before enough)
   promised in-range before after o enough (answer-given _ _ _ given) =
       let bytes = k .bundle in
       let same-word : given .word ≡ k .case .verdict =

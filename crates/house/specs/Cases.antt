@@ -1,6 +1,6 @@
 -- P1 to P12 of the paper on real bytes: RT0's list of cases, each with its bundle and the checks of the bundle's blocks; and when that is
 -- right, by the definitions that the promises cite. What is asked and what is to come out is said in RT0's list alone.
-use Prim.Native.Nat.{ℕ, zero, suc, _/_, _≤_}
+use Prim.Native.Nat.{ℕ, zero, suc, _/_}
 use mathlib.Core.Path.{_≡_}
 use mathlib.Core.List.{List, [], _∷_, _++_, zipWith}
 use lib.ListN.{length}
@@ -15,8 +15,8 @@ use Rattle.bundle.specs.Layout.{entitiesOf, namesOf}
 use Rattle.bundle.specs.Held.{shelves, openOf, held as heldIn}
 use Rattle.bundle.specs.Question.{question, roleAsked, Asked}
 use Rattle.answers.specs.Answer.{Outcome, answered}
-use Rattle.tables.specs.Sizes.{tableWords, slipBytes}
 use Rattle.search.specs.Promise.{Lent, Promise}
+use Rattle.search.specs.Enough.{Enough}
 use Rattle.house.specs.Bundles.{allPresent, guildAbsent, uplandAbsent, bothAbsent, removedAllPresent, removedGuildAbsent}
 use Rattle.house.specs.Bundles.{empty, emptyAbsent, inItself}
 
@@ -72,12 +72,6 @@ abbrev pub Word : CaseOnBytes → Verdict → Type 0
 Word k v =
     Answers (entitiesOf (k .bundle)) (namesOf (k .bundle)) (openOf (k .bundle)) (heldIn (k .bundle)) (roleAsked (questionOf k))
     (questionOf k .person) v
-
--- as much lent memory as the search asks for
-pub record Enough (m : Lent) : Type 0 where
-  pub sure : tableWords ≤ length (m .sure)
-  pub possible : tableWords ≤ length (m .possible)
-  pub slip : slipBytes ≤ length (m .slip)
 
 -- what a case states is so of its bytes
 pub record RightOnBytes (k : CaseOnBytes) : Type 0 where

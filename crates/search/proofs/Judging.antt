@@ -7,7 +7,7 @@ use mathlib.Core.Logic.{inl, inr, ⊎-elim}
 use mathlib.Core.List.{List, [], _∷_}
 use lib.ListN.{length}
 use lib.Dec.{ltb}
-use borrow.Author.Tests.{ltb-false}
+use borrow.Author.Tests.{ltb-false, le-ltb}
 use Rattle.base.specs.Refusals.{Row, Due, Clear, Applies, AllOnePlace, AllNumbered, refused, passed}
 use Rattle.base.proofs.Flags.{or-false, Tells, or-tells-three, lt-tells, clash-flag}
 use Rattle.base.proofs.Refusals.{due-first, due-later, clear-both, one-place-both, numbered-both, zero-place}
@@ -29,17 +29,26 @@ use Rattle.tables.specs.Sizes.{tableWords, slipBytes}
 use Rattle.tables.specs.Promise.{Tables, tables, tablesWrong, TablesPromise}
 use Rattle.tables.proofs.Told.{refused-told}
 use Rattle.search.specs.Promise.{Lent, lent, LentShort, lentWrong, lentRow, searchRows, AnsweredWith, Promise}
+use Rattle.search.specs.Enough.{Enough}
 use Rattle.search.specs.Concluded.{RefusedAs}
 
--- memory that is not too short is enough
-pub lent-enough : (m : Lent) → lentWrong m ≡ false
-    → (tableWords ≤ length (m .sure)) × (tableWords ≤ length (m .possible)) × (slipBytes ≤ length (m .slip))
+-- memory that is not too short is enough, and the other way round
+pub lent-enough : (m : Lent) → lentWrong m ≡ false → Enough m
 lent-enough m h =
     let (both, slip) = or-false (tablesWrong (tables (m .sure) (m .possible))) (ltb (length (m .slip)) slipBytes) h in
-    let (sure, possible) = or-false (ltb (length (m .sure)) tableWords) (ltb (length (m .possible)) tableWords) both in (
-      ltb-false (length (m .sure)) tableWords sure,
-      ltb-false (length (m .possible)) tableWords possible,
-      ltb-false (length (m .slip)) slipBytes slip,
+    let (sure, possible) = or-false (ltb (length (m .sure)) tableWords) (ltb (length (m .possible)) tableWords) both in
+    record {
+      sure = ltb-false (length (m .sure)) tableWords sure;
+      possible = ltb-false (length (m .possible)) tableWords possible;
+      slip = ltb-false (length (m .slip)) slipBytes slip;
+    }
+
+pub enough-right : (m : Lent) → Enough m → lentWrong m ≡ false
+enough-right m e =
+    rw (
+      le-ltb (length (m .sure)) tableWords (e .sure),
+      le-ltb (length (m .possible)) tableWords (e .possible),
+      le-ltb (length (m .slip)) slipBytes (e .slip),
     )
 
 lent-tells : (m : Lent) → Tells (lentWrong m) (LentShort m)
@@ -81,7 +90,7 @@ module _ (bytes : List ℕ) (q : Question) (before : Lent) where
   in-range : outside ≡ false → Applies (questionRow bytes q) → ⊥
   in-range h (_, (_, w)) = clash-flag (question-tells (entitiesOf bytes) (namesOf bytes) q .1 w) h
 
-  enough-memory : lentWrong before ≡ false → Applies (lentRow before) → ⊥
+  pub enough-memory : lentWrong before ≡ false → Applies (lentRow before) → ⊥
   enough-memory h (_, (_, w)) = clash-flag (lent-tells before .1 w) h
 
   -- a wrong question, or else too little memory

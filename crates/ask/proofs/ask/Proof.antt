@@ -1,7 +1,7 @@
 -- `ask::ask` meets its contract.
 use borrow.Author.Needs.{needs}
 use denote.Ref.{now}
-use Rattle.ask.proofs.Asked.{asked}
+use Rattle.ask.proofs.Answered.{asked}
 use Rattle.ask.proofs.ask.Statement.{statement}
 use Rattle.ask.proofs.ask.Tie as tie
 

@@ -2,7 +2,7 @@
 use borrow.Author.Needs.{needs}
 use denote.Ref.{now}
 use Rattle.answers.specs.Line.{lineOf}
-use Rattle.ask.proofs.Prints.{prints-answer}
+use Rattle.ask.proofs.Answered.{prints-answer}
 use Rattle.ask.proofs.line_with.Statement.{statement}
 use Rattle.ask.proofs.line_with.Tie as tie
 
@@ -29,7 +29,7 @@ returns c =
     record {
       shown = lineOf answer;
       holds = c .line .ensures;
-      prints = prints-answer (now (start .args .input)) _ _ answer (start .pre) (answered .ask .ensures);
+      allowed = prints-answer (now (start .args .input)) _ (start .pre) _ answer (answered .ask .ensures);
     }
 
 pub line-with-spec : {M : Type 1} → statement M

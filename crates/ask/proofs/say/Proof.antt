@@ -12,7 +12,9 @@ enum-known-got : tie.Need-enum-known-got
 enum-known-got c = search needs
 
 slice-aggregate-line-for : tie.Need-slice-aggregate-line-for
-slice-aggregate-line-for c = sym (length-take-le _ _ (whole-fits _ (c .before .before .got .given .1) (c .before .before .before .before .before .pre .1 .1)))
+slice-aggregate-line-for c =
+    let start = c .before .before .before .before .before in
+    sym (length-take-le _ _ (whole-fits _ (c .before .before .got .given .1) (start .pre .1 .1)))
 
 line-for-requires : tie.Need-line-for-requires
 line-for-requires c κs = search needs
@@ -45,7 +47,9 @@ returns : tie.Need-returns
 returns c = said-whole _ _ _ _ _ _ (c .before .before .before .before .got .given .1) (c .before .line-for .ensures) (c .empty .ensures .0)
 
 returns-2 : tie.Need-returns-2
-returns-2 c = said-longer _ _ _ _ _ _ _ prints-longer (c .before .before .before .before .before .pre .0) (c .before .before .enum-told .given .1) (c .before .refusal .ensures) (c .empty2 .ensures .0)
+returns-2 c =
+    let start = c .before .before .before .before .before in
+    said-longer _ _ _ _ _ _ _ prints-longer (start .pre .0) (c .before .before .enum-told .given .1) (c .before .refusal .ensures) (c .empty2 .ensures .0)
 
 returns-3 : tie.Need-returns-3
 returns-3 c = said-failed _ _ _ _ _ (c .before .before .before .enum-told2 .given .1) (c .before .before .empty3 .ensures .0) (c .message .ensures)

@@ -52,8 +52,8 @@ conclude-requires c κs =
     let known = c .before .before .before .before in
     let (accepts, filled) = filled-told _ _ _ _ _ (rw (known .filled .given .1) at (known .before .before .before .before .before .before .fill .ensures)) in
     let start = known .before .before .before .before .before .before .before .before .before .before .before .before .before in
-    let (_, _, slip) = lent-enough (lent (now (start .args .sure)) (now (start .args .possible)) (now (start .args .slip))) (start .pre .1) in
-    (asked-of _ _ _ accepts (start .pre .0), tables-shown filled, slip)
+    let enough = lent-enough (lent (now (start .args .sure)) (now (start .args .possible)) (now (start .args .slip))) (start .pre .1) in
+    (asked-of _ _ _ accepts (start .pre .0), tables-shown filled, enough .slip)
 
 same-length-5 : tie.Need-same-length-5
 same-length-5 c = search needs
