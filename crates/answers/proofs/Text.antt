@@ -1,13 +1,15 @@
--- Texts that grow byte by byte: one byte, nothing, and one after the other. What a text shows determines it.
-use Prim.Native.Nat.{ℕ, suc, _+_, _-_, _<_}
+-- Texts that grow byte by byte: one byte, nothing, and one after the other. What a text shows determines it. And a message, which stands as
+-- it is or not at all.
+use Prim.Native.Nat.{ℕ, suc, _+_, _-_, _<_, _≤_}
 use native.Mathlib.Numerals.{add-one}
 use native.Mathlib.Omega.{arith}
 use mathlib.Core.Path.{_≡_, refl, ap, sym, _∙_}
 use mathlib.Core.List.{List, [], _∷_, _++_, append-nil, append-assoc}
 use lib.ListN.{length, take, drop, set, replicate, length-set, length-append, take-append-drop}
+use borrow.Author.Tests.{lt-ltb, le-ltb}
 use lib.Seq.{take-suc-set, drop-set-lt, drop-drop, length-take-le}
 use Rattle.answers.specs.declared.line.Text.{Text}
-use Rattle.answers.specs.Line.{capacity, Holds, Extends}
+use Rattle.answers.specs.Line.{capacity, messageOf, Holds, Extends}
 
 -- zeros without their first
 drop-zero : (k n : ℕ) → k ≡ suc n → drop {A = ℕ} 1 (replicate k 0) ≡ replicate n 0
@@ -62,3 +64,10 @@ one-text {a} {b} h k =
     let length : a .length ≡ b .length = length-shown h ∙ sym (length-shown k) in
     ap (λ (l : List ℕ). record { bytes = l; length = a .length }) bytes
     ∙ ap (λ (n : ℕ). record { bytes = b .bytes; length = n }) length
+
+-- a message that is longer than the room, and one that is not
+pub message-none : {text : Text} (letters : List ℕ) → capacity < length letters → Holds text [] → Holds text (messageOf letters)
+message-none letters long h = rw (lt-ltb capacity (length letters) long) h
+
+pub message-whole : {text : Text} (letters : List ℕ) → length letters ≤ capacity → Holds text letters → Holds text (messageOf letters)
+message-whole letters fits h = rw (le-ltb capacity (length letters) fits) h

@@ -1,7 +1,7 @@
 -- `answers::line::message` meets its contract.
-use native.Mathlib.Omega.{arith}
 use borrow.Author.Needs.{needs}
-use borrow.Author.Tests.{lt-ltb, le-ltb}
+use denote.Ref.{now}
+use Rattle.answers.proofs.Text.{message-none, message-whole}
 use Rattle.answers.proofs.line.message.Statement.{statement}
 use Rattle.answers.proofs.line.message.Tie as tie
 
@@ -9,7 +9,7 @@ empty-requires : tie.Need-empty-requires
 empty-requires c κs = search needs
 
 returns : tie.Need-returns
-returns c = rw (lt-ltb _ _ (c .before .if1 .taken)) (c .empty .ensures .0)
+returns c = message-none (now (c .before .before .before .args .words)) (c .before .if1 .taken) (c .empty .ensures .0)
 
 empty-requires-2 : tie.Need-empty-requires-2
 empty-requires-2 c κs = search needs
@@ -18,7 +18,9 @@ word-requires : tie.Need-word-requires
 word-requires c κs = search needs
 
 returns-2 : tie.Need-returns-2
-returns-2 c = rw (le-ltb _ _ (c .before .before .if1 .left)) (c .word .ensures .holds _ (c .before .empty2 .ensures .0))
+returns-2 c =
+    let tested = c .before .before in
+    message-whole (now (tested .before .before .args .words)) (tested .if1 .left) (c .word .ensures .holds _ (c .before .empty2 .ensures .0))
 
 pub message-spec : {M : Type 1} → statement M
 message-spec = tie.close (tie.spec empty-requires returns empty-requires-2 word-requires returns-2)
