@@ -1,26 +1,23 @@
 -- What the search answers to an input's question, with enough memory, is what may be printed for that input.
 use Prim.Native.Nat.{ℕ, zero, suc, _-_, min}
-use mathlib.Core.Path.{_≡_, refl, ap, sym, subst₂, _∙_}
-use mathlib.Core.Logic.{inl, inr, ⊎-elim}
+use mathlib.Core.Path.{_≡_, refl, ap, sym, subst, subst₂, _∙_}
 use mathlib.Core.List.{List, [], _∷_}
 use lib.ListN.{length, take, drop}
 use Rattle.rt0.specs.Completion.{Verdict, YES, NO, UNSURE}
 use Rattle.base.specs.Byte.{byteAt}
-use Rattle.base.specs.Refusals.{Row, Due, Clear, refused, passed}
-use Rattle.base.proofs.Refusals.{due-first, due-later, due-split, clear-first, clear-later, clear-both}
+use Rattle.base.specs.Refusals.{Clear, refused, passed}
 use Rattle.bundle.specs.declared.question.Question.{Question}
-use Rattle.bundle.specs.Rows.{readerRows}
-use Rattle.bundle.specs.Question.{question, questionRow}
+use Rattle.bundle.specs.Question.{question}
 use Rattle.answers.specs.declared.Answer.{Answer}
 use Rattle.answers.specs.declared.Answer.the-variants.{Yes, No, Unsure, Refused}
-use Rattle.answers.specs.Answer.{Outcome, refusal, answered, outcomeOf}
+use Rattle.answers.specs.Answer.{Outcome, answered, outcomeOf}
 use Rattle.answers.specs.Line.{refusalLine, answerLine, lineOf}
-use Rattle.said.specs.Line.{refuses, gives}
-use Rattle.search.specs.Promise.{Lent, lentRow, searchRows, Promise}
+use Rattle.said.proofs.Line.{line-refused, line-given}
+use Rattle.search.specs.Promise.{Lent, lentRow, Promise}
 use Rattle.search.specs.Enough.{Enough}
 use Rattle.search.proofs.Judging.{enough-right, enough-memory}
 use Rattle.asked.specs.Input.{questionBytes, bundleOf, questionOf}
-use Rattle.asked.specs.Prints.{askRows, Prints}
+use Rattle.asked.specs.Prints.{askRows, AnsweredLine, Prints}
 use Rattle.asked.proofs.Input.{bundle-part}
 
 -- the part behind the question is the bundle, and the first three bytes are the question
@@ -54,40 +51,20 @@ word-line YES rounds lines = refl
 word-line NO rounds lines = refl
 word-line UNSURE rounds lines = refl
 
+-- with enough memory the search's row about memory, which the program's table has not, never applies
 module _ (input : List ℕ) (m : Lent) (enough : Enough m) where
-  abbrev bundle : List ℕ
-  bundle = bundleOf input
+  no-memory-row : Clear (lentRow m ∷ [])
+  no-memory-row = (enough-memory (bundleOf input) (questionOf input) m (enough-right m enough), tt)
 
-  abbrev asks : Row
-  asks = questionRow bundle (questionOf input)
-
-  no-memory-row : (n p : ℕ) → Due (lentRow m ∷ []) n p → ⊥
-  no-memory-row n p (inl (_, applies)) = enough-memory bundle (questionOf input) m (enough-right m enough) (p, applies)
-  no-memory-row n p (inr (_, none)) = none
-
-  question-due : (n p : ℕ) → Due (asks ∷ lentRow m ∷ []) n p → Due (asks ∷ []) n p
-  question-due n p (inl d) = inl d
-  question-due n p (inr (_, d)) = absurd (no-memory-row n p d)
-
-  -- what is due with enough memory is due by the program's own table, and where nothing is due there, nothing is here
-  due-asked : (n p : ℕ) → Due (searchRows bundle (questionOf input) m) n p → Due (askRows input) n p
-  due-asked n p d =
-      ⊎-elim (due-first (readerRows bundle) (asks ∷ []) n p)
-      (λ (clear, own). due-later (readerRows bundle) (asks ∷ []) n p clear (question-due n p own))
-      (due-split (readerRows bundle) (asks ∷ lentRow m ∷ []) n p d)
-
-  clear-asked : Clear (searchRows bundle (questionOf input) m) → Clear (askRows input)
-  clear-asked c =
-      let own : List Row = asks ∷ lentRow m ∷ [] in
-      clear-both (readerRows bundle) (asks ∷ []) (clear-first (readerRows bundle) own c) (clear-later (readerRows bundle) own c .0, tt)
-
-  pub prints-answer : (after : Lent) (answer : Answer) → Promise bundle (questionOf input) m after (outcomeOf answer) → Prints input (lineOf answer)
+  pub prints-answer : (after : Lent) (answer : Answer) → Promise (bundleOf input) (questionOf input) m after (outcomeOf answer)
+      → Prints input (lineOf answer)
   prints-answer after answer (refused d kept) =
       let o = outcomeOf answer in
-      refuses (o .number) (o .place) (due-asked (o .number) (o .place) d) (line-of answer ∙ ap outcomeLine (kept .outcome))
+      let line : lineOf answer ≡ refusalLine (o .number) (o .place) = line-of answer ∙ ap outcomeLine (kept .outcome) in
+      subst (Prints input) (sym line) (line-refused (askRows input) (AnsweredLine input) (lentRow m ∷ []) no-memory-row (o .number) (o .place) d)
   prints-answer after answer (passed _ _ c a) =
       let o = outcomeOf answer in
-      gives (clear-asked c)
+      line-given (askRows input) (AnsweredLine input) (lentRow m ∷ []) no-memory-row c
       (record {
         word = a .word;
         rounds = o .rounds;

@@ -4,15 +4,12 @@ use mathlib.Core.List.{List}
 use lib.ListN.{drop}
 use Rattle.base.specs.Byte.{byteAt}
 use Rattle.bundle.specs.declared.question.Question.{Question}
+use Rattle.bundle.specs.Layout.{longestBundle}
 use Rattle.bundle.specs.Question.{question}
 
 -- the bytes of a question before its bundle
 abbrev pub questionBytes : ℕ
 questionBytes = 3
-
--- the bytes of the longest bundle: seven blocks of 512
-abbrev pub longestBundle : ℕ
-longestBundle = 3584
 
 -- the bytes of the longest question
 abbrev pub longestInput : ℕ

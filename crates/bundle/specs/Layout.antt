@@ -12,9 +12,13 @@ use Rattle.block.specs.Block.{block, checkWrong, blockOf, startOf}
 use Rattle.records.specs.Mistake.{recordWrong}
 use Rattle.bundle.specs.declared.read.Sizes.{Sizes}
 
--- the length is 0, above 3,584 or no multiple of 512
+-- the bytes of the longest bundle: seven blocks of 512
+abbrev pub longestBundle : ℕ
+longestBundle = 3584
+
+-- the length is 0, above that or no multiple of 512
 abbrev pub lengthWrong : ℕ → Bool
-lengthWrong n = eqb n 0 || ltb 3584 n || not (eqb (n % 512) 0)
+lengthWrong n = eqb n 0 || ltb longestBundle n || not (eqb (n % 512) 0)
 
 -- the number of blocks of a bundle
 abbrev pub blocks : List ℕ → ℕ

@@ -12,11 +12,11 @@ use Rattle.block.specs.Block.{block}
 use Rattle.bundle.specs.declared.read.Sizes.{Sizes}
 use Rattle.bundle.specs.declared.read.Reading.{Reading}
 use Rattle.bundle.specs.declared.read.Reading.the-variants.{Accepted, Refused}
-use Rattle.bundle.specs.Layout.{blocks, recordsOf, sizesIn, firstWrong, blocksFor, badCheck, badBeside, badRecord}
+use Rattle.bundle.specs.Layout.{longestBundle, blocks, recordsOf, sizesIn, firstWrong, blocksFor, badCheck, badBeside, badRecord}
 
 -- length is 0, above 3,584 or no multiple of 512
 abbrev pub LengthWrong : ℕ → Type 0
-LengthWrong n = (n ≡ 0) ⊎ ((3584 < n) ⊎ (n % 512 ≡ 0 → ⊥))
+LengthWrong n = (n ≡ 0) ⊎ ((longestBundle < n) ⊎ (n % 512 ≡ 0 → ⊥))
 
 abbrev pub readerRows : List ℕ → List Row
 readerRows bytes =

@@ -19,6 +19,7 @@ use Rattle.base.proofs.Flags.{Tells, or-tells-three, eq-tells, lt-tells, not-te
 use Rattle.base.proofs.Lowest.{Missed}
 use Rattle.base.proofs.Refusals.{zero-place, from-one-place, lowest-place, zero-finds, lowest-finds-from-one, finds-as}
 use Rattle.base.proofs.Refusals.{one-place-both, numbered-both, due-first, due-later, due-number, due-clear, due-unique}
+use Rattle.base.proofs.Refusals.{judged-exactly, judged-clear}
 use Rattle.base.proofs.Refusals.{Told, due, none-due, told-more, clear-both, clear-first, clear-later, none-missed, missed-no}
 use Rattle.bundle.specs.declared.read.Sizes.{Sizes}
 use Rattle.bundle.specs.declared.read.Reading.{Reading}
@@ -36,7 +37,7 @@ use Rattle.bundle.proofs.Questions.{question-applies, question-clear}
 use Rattle.checker.specs.declared.check.Checked.{Checked}
 use Rattle.checker.specs.declared.check.Checked.the-variants.{Accepted, Refused}
 use Rattle.checker.specs.Premise.{lineWrong}
-use Rattle.checker.specs.Rows.{linesIn, SlipLengthWrong, Breaks, FirstBroken, slipRows, checkerRows, Checks}
+use Rattle.checker.specs.Rows.{linesIn, SlipLengthWrong, Breaks, FirstBroken, slipRows, checkerRows, numberOf, placeOf, Checks}
 use Rattle.checker.specs.Checking.{slipLengthWrong, lastStates, lastTests, lineTests, slipTests, checkedFor, checkBy, checkAfter, checkingOf}
 use Rattle.checker.proofs.Answers.{slip-length-right}
 use Rattle.checker.proofs.Rules.{line-at, line-right, slip-right, last-right}
@@ -227,3 +228,11 @@ module _ (bundle : List ℕ) (q : Question) (slip : List ℕ) where
       let (same, place) = due-unique (checkerRows bundle q slip) checker-places n p m o d e in
       cc
   answers-equal (Refused n p) (Refused m o) (refused d k) (passed _ _ c e) = absurd (some-lines c e)
+
+  -- number and place exactly when due; number 0 exactly when no row applies
+  pub checker-exactly : (c : Checked) → Checks bundle q slip c → (n p : ℕ) → 1 ≤ n
+      → ((numberOf c ≡ n) × (placeOf c ≡ p)) ↔ Due (checkerRows bundle q slip) n p
+  checker-exactly c = judged-exactly (checkerRows bundle q slip) checker-places checker-numbers
+
+  pub checker-clear : (c : Checked) → Checks bundle q slip c → (numberOf c ≡ 0) ↔ Clear (checkerRows bundle q slip)
+  checker-clear c = judged-clear (checkerRows bundle q slip) checker-places checker-numbers

@@ -8,6 +8,7 @@ use mathlib.Core.List.{List}
 use lib.ListN.{length}
 use Rattle.bundle.specs.declared.read.Sizes.{Sizes}
 use Rattle.bundle.specs.declared.read.Reading.the-variants.{Refused}
+use Rattle.bundle.specs.Layout.{longestBundle}
 use Rattle.bundle.specs.Rows.{readerRows, Reads, Accepts}
 use Rattle.bundle.proofs.Refusals.{reader-places}
 use Rattle.bundle.proofs.Accepted.{accepted-contents}
@@ -18,7 +19,7 @@ use Rattle.said.specs.Said.{HoldsAllowed}
 use Rattle.said.specs.Line.{refuses, gives}
 use Rattle.said.proofs.Saying.{one-held}
 use Rattle.said.proofs.Line.{one-line}
-use Rattle.read_bundle.specs.Prints.{longestBundle, AcceptedLine, Prints}
+use Rattle.read_bundle.specs.Prints.{AcceptedLine, Prints}
 
 -- what block 0 of an accepted bundle says are bytes
 pub sizes-small : (input : List ℕ) (s : Sizes) → Accepts input s → (s .entities < 256) × (s .names < 256) × (s .records < 256)

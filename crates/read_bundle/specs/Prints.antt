@@ -9,10 +9,6 @@ use Rattle.answers.specs.Ascii.{ascii}
 use Rattle.answers.specs.Line.{acceptedLine}
 use Rattle.said.specs.Line.{LineBy}
 
--- the bytes of the longest bundle: seven blocks of 512
-abbrev pub longestBundle : ℕ
-longestBundle = 3584
-
 -- the line of what block 0 says
 abbrev pub AcceptedLine : List ℕ → List ℕ → Type 0
 AcceptedLine input shown = shown ≡ acceptedLine (entitiesOf input) (namesOf input) (recordsOf input)

@@ -69,11 +69,6 @@ module _ (E R : ℕ) (bytes : List ℕ) (h : recordWrong E R bytes ≡ false) wh
       let (above, within) = inside R (byteAt bytes i) (and-false _ _ (right 3 (omega arith) i l) e) in
       record { above = above; within = within }
 
-  -- a byte that should be zero
-  pub zero-at : (i : ℕ) → i < 12 → zeroByte (byteAt bytes 0) (byteAt bytes 3) i ≡ true → byteAt bytes i ≡ 0
-  unfolding wrongBy
-  zero-at i l e = eqb-true (byteAt bytes i) 0 (not-false _ (and-false _ _ (right 4 (omega arith) i l) e))
-
   role-at : (i : ℕ) → i < 11 → entityByte (byteAt bytes 0) (byteAt bytes 3) i ≡ true
       → nameByte (byteAt bytes 0) (byteAt bytes 3) (suc i) ≡ true → ValidRole E R (byteAt bytes i · byteAt bytes (suc i))
   role-at i l e n = (entity-at i (omega arith) e, name-at (suc i) (omega arith) n)

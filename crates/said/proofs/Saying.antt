@@ -45,10 +45,6 @@ module _ (Prints : List ℕ → List ℕ → Type 0) (unreadable : List ℕ) whe
   problem-shown Longer buffer said r = (_, r .1)
   problem-shown (Failed answer) buffer said r = (_, r .1)
 
--- a text that holds bytes shows them, and is short enough to be written
-pub shown-held : {text : Text} {shown : List ℕ} → Holds text shown → (shownBy text ≡ shown) × (text .length ≤ capacity)
-shown-held h = (h .first, h .fits)
-
 -- where the allowed bytes are one line, there is one text
 pub one-held : {Allowed : List ℕ → Type 0} {a b : Text} → ((one two : List ℕ) → Allowed one → Allowed two → one ≡ two)
     → HoldsAllowed Allowed a → HoldsAllowed Allowed b → a ≡ b

@@ -39,9 +39,6 @@ module _ (bytes : List ℕ) {s : Sizes} (h : Accepts bytes s) where
   pub held-names : s .names ≤ width
   held-names = omega (arith, contents .most-names)
 
-  pub held-few : length (held bytes) ≤ 240
-  held-few = omega (arith, length-credentials bytes (recordsOf bytes), contents .records, contents .most-records)
-
   pub held-valid : AllValid (s .entities) width (held bytes)
   held-valid k i = valid-wider (le-refl (s .entities)) held-names k (contents .valid k i)
 
