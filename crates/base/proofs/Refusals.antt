@@ -112,7 +112,7 @@ finds-as found f same p = (λ h. same p .0 (f p .0 h), λ b. f p .1 (same p .1 b
 lowest-back : (holds : ℕ → Bool) (n p : ℕ) → LowestBelow holds n p → lowest holds n < n
 lowest-back holds n p a = rw (← lowest-unique _ _ _ _ (is-lowest a) (lowest-is holds n)) (a .below)
 
-lowest-there : (holds : ℕ → Bool) (n : ℕ) → lowest holds n < n → LowestBelow holds n (lowest holds n)
+pub lowest-there : (holds : ℕ → Bool) (n : ℕ) → lowest holds n < n → LowestBelow holds n (lowest holds n)
 lowest-there holds n l = record { below = l; holds = lowest-is holds n .hit l; lowest = lowest-is holds n .missed }
 
 pub lowest-finds : (holds : ℕ → Bool) (n : ℕ) → Finds (lowestPlace holds n) (LowestBelow holds n)

@@ -3,6 +3,7 @@
 -- FirstBlock hold what Accepted needs. Determined: any two answers of the reader are equal.
 pub mod Parts
 pub mod Stages
+pub mod RecordRows
 pub mod Refusals
 pub mod Passed
 pub mod FirstBlock

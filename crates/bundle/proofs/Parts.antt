@@ -8,14 +8,17 @@ use lib.Seq.{getD-take}
 use borrow.Author.Tests.{lt-ltb, le-ltb}
 use Rattle.base.specs.Byte.{byteAt}
 use Rattle.base.specs.Range.{outside}
-use Rattle.base.proofs.Parts.{found-part}
+use Rattle.base.proofs.Parts.{part-is, found-part}
 use Rattle.block.specs.Block.{block, blockOf, startOf}
 use Rattle.records.specs.declared.form.Record.{Record}
 use Rattle.records.specs.declared.form.Record.the-variants as variant
-use Rattle.records.specs.Mistake.{recordWrong}
+use Rattle.records.specs.declared.mistake.Mistake.{Mistake}
+use Rattle.records.specs.Mistake.{Mistaken, mistakeNumber, mistakeKind, kindNumber, recordWrong}
+use Rattle.records.proofs.Mistakes.{mistake-number}
 use Rattle.records.specs.Form.{recordIn}
 use Rattle.bundle.specs.declared.read.Sizes.{Sizes}
 use Rattle.bundle.specs.Layout.{sizesIn, recordsOf, recordsIn, besideWrong, badBeside, recordBytes, badRecord}
+use Rattle.bundle.specs.Reading.{mistakeIn}
 use Rattle.bundle.specs.Access.{recordOf}
 
 -- the part from byte 512 k to byte 512 k + 512
@@ -47,6 +50,20 @@ pub wrong-found : (bytes : List ℕ) (sizes : Sizes) (i k start : ℕ) (found : 
 wrong-found bytes sizes i k start found e b s h =
     record-found (recordWrong (sizesIn bytes .entities) (sizesIn bytes .names)) bytes i k start found b s
     (subst (λ (t : Sizes). found ≡ recordWrong (t .entities) (t .names) (take 12 (drop start (part bytes k)))) e h)
+
+-- what is wrong with the twelve bytes of a part of a block
+pub mistaken-part : (s : Sizes) (bytes : List ℕ) (start : ℕ) (m : Mistake)
+    → Mistaken (s .entities) (s .names) (take (start + 12 - start) (drop start bytes)) m
+    → Mistaken (s .entities) (s .names) (take 12 (drop start bytes)) m
+mistaken-part s bytes start m h = subst (λ (r : List ℕ). Mistaken (s .entities) (s .names) r m) (part-is bytes start 12) h
+
+-- and so with record i
+pub mistake-found : (bytes : List ℕ) (s : Sizes) (i k start : ℕ) (m : Mistake) → s ≡ sizesIn bytes → k ≡ blockOf i → start ≡ startOf i
+    → Mistaken (s .entities) (s .names) (take 12 (drop start (part bytes k))) m → mistakeNumber m ≡ mistakeIn bytes i
+mistake-found bytes s i k start m e b t h =
+    record-found (λ (r : List ℕ). kindNumber (mistakeKind (sizesIn bytes .entities) (sizesIn bytes .names) r)) bytes i k start (mistakeNumber m) b t
+    (subst (λ (x : Sizes). mistakeNumber m ≡ kindNumber (mistakeKind (x .entities) (x .names) (take 12 (drop start (part bytes k))))) e
+    (mistake-number (s .entities) (s .names) _ m h))
 
 -- a record whose block the bundle does not have whole
 pub record-cut : (bytes : List ℕ) (n k : ℕ) → outside 240 n ≡ false → k ≡ blockOf (n - 1) → length bytes < 512 * k + 512

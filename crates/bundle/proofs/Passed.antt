@@ -12,6 +12,7 @@ use Rattle.base.proofs.Refusals.{none-missed, missed-no}
 use Rattle.block.specs.Block.{block}
 use Rattle.bundle.specs.Layout.{lengthWrong, blocks, recordsOf, firstWrong, blocksFor, badCheck, badBeside, badRecord}
 use Rattle.bundle.specs.Rows.{LengthWrong, readerRows}
+use Rattle.bundle.proofs.RecordRows.{clear-records, records-clear}
 
 pub record Passed (bytes : List ℕ) : Type 0 where
   pub right-length : lengthWrong (length bytes) ≡ false
@@ -33,14 +34,14 @@ module _ (bytes : List ℕ) where
       by false t = absurd (h (λ e. true≢false (sym (t .1 e))))
 
   pub clear-passed : Clear (readerRows bytes) → Passed bytes
-  clear-passed (one, (two, (three, (four, (five, (six, _)))))) =
+  clear-passed (one, (two, (three, (four, (five, records))))) =
       record {
         right-length = not-true-false _ (λ h. one (0, (refl, length-tells (length bytes) .0 h)));
         right-checks = none-missed _ _ (λ k a. two (k, a));
         right-first = not-true-false _ (λ h. three (0, (refl, h)));
         right-count = fits (λ n. four (0, (refl, n)));
         right-beside = none-missed _ _ (λ k a. five (_, (k, refl, a)));
-        right-records = none-missed _ _ (λ k a. six (_, (k, refl, a)));
+        right-records = clear-records bytes records;
       }
 
   pub passed-clear : Passed bytes → Clear (readerRows bytes)
@@ -52,7 +53,7 @@ module _ (bytes : List ℕ) where
         λ (_, (_, h)). clash-flag h (p .right-first),
         (
           λ (_, (_, n)). n (p .right-count),
-          (λ (_, (k, _, a)). missed-no _ _ k (p .right-beside) a, (λ (_, (k, _, a)). missed-no _ _ k (p .right-records) a, tt)),
+          (λ (_, (k, _, a)). missed-no _ _ k (p .right-beside) a, records-clear bytes (p .right-records)),
         ),
       ),
     ),

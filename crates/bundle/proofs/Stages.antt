@@ -13,7 +13,7 @@ use Rattle.block.specs.Block.{block}
 use Rattle.bundle.specs.declared.read.Sizes.{Sizes}
 use Rattle.bundle.specs.declared.read.Reading.the-variants.{Accepted, Refused}
 use Rattle.bundle.specs.Layout.{lengthWrong, blocks, recordsOf, sizesIn, firstWrong, blocksFor, badCheck, badBeside, badRecord}
-use Rattle.bundle.specs.Reading.{recordTests, besideTests, countTests, firstTests, checkTests, readerTests, readBy, readOf}
+use Rattle.bundle.specs.Reading.{mistakeIn, recordTests, besideTests, countTests, firstTests, checkTests, readerTests, readBy, readOf}
 
 -- a right length is that of one to seven whole blocks
 pub length-right : (n : ℕ) → lengthWrong n ≡ false → (1 ≤ n / 512) × (n / 512 ≤ 7) × (n ≡ 512 * (n / 512))
@@ -31,10 +31,9 @@ records-said bytes s e = ap (λ (t : Sizes). t .records) e
 
 module _ (bytes : List ℕ) where
   pub record-refused : (s : Sizes) (i : ℕ) → s ≡ sizesIn bytes → i ≡ lowest (badRecord bytes) (s .records) → i < s .records
-      → Refused 6 (i + 1) ≡ readBy bytes (recordTests bytes)
+      → (number : ℕ) → number ≡ mistakeIn bytes i → Refused number (i + 1) ≡ readBy bytes (recordTests bytes)
   unfolding readBy recordTests
-  record-refused s i e l h =
-      rw (← records-said bytes s e, ← l, lt-ltb i (s .records) h)
+  record-refused s i e l h number m = rw (← records-said bytes s e, ← l, lt-ltb i (s .records) h, m)
 
   pub record-passed : (s : Sizes) (i : ℕ) → s ≡ sizesIn bytes → i ≡ lowest (badRecord bytes) (s .records) → s .records ≤ i
       → Accepted s ≡ readBy bytes (recordTests bytes)

@@ -5,14 +5,21 @@ use mathlib.Core.List.{List, [], _∷_}
 use lib.ListN.{length}
 use lib.Dec.{eqb}
 use Rattle.base.specs.Refusals.{Refusal, given, clear, Test, test, zeroIf, lowestPlace, lowestFromOne, first}
+use Rattle.base.specs.Lowest.{lowest}
 use Rattle.block.specs.Block.{block}
+use Rattle.records.specs.Mistake.{mistakeKind, kindNumber}
 use Rattle.bundle.specs.declared.read.Reading.{Reading}
 use Rattle.bundle.specs.declared.read.Reading.the-variants.{Accepted, Refused}
-use Rattle.bundle.specs.Layout.{lengthWrong, blocks, recordsOf, sizesIn, firstWrong, blocksFor, badCheck, badBeside, badRecord}
+use Rattle.bundle.specs.Layout.{lengthWrong, blocks, entitiesOf, namesOf, recordsOf, recordBytes, sizesIn, firstWrong, blocksFor, badCheck, badBeside, badRecord}
 
--- the records, at last
+-- the paper's number of what is wrong with record i, 0 for nothing
+abbrev pub mistakeIn : List ℕ → ℕ → ℕ
+mistakeIn bytes i = kindNumber (mistakeKind (entitiesOf bytes) (namesOf bytes) (recordBytes bytes i))
+
+-- the records, at last: the lowest wrong one, with the number of what is wrong with it
 unfoldable pub recordTests : List ℕ → List Test
-recordTests bytes = test 6 (lowestFromOne (badRecord bytes) (recordsOf bytes)) ∷ []
+recordTests bytes =
+    test (mistakeIn bytes (lowest (badRecord bytes) (recordsOf bytes))) (lowestFromOne (badRecord bytes) (recordsOf bytes)) ∷ []
 
 -- the bytes beside the records
 unfoldable pub besideTests : List ℕ → List Test

@@ -7,16 +7,32 @@ use mathlib.Core.Logic.{_⊎_}
 use mathlib.Core.List.{List, [], _∷_}
 use lib.ListN.{length}
 use Rattle.base.specs.Lowest.{LowestBelow}
-use Rattle.base.specs.Refusals.{Row, row, AtZero, FromOne, Clear, Judged}
+use Rattle.base.specs.Refusals.{Row, row, AtZero, FromOne, Due, Clear, Judged}
 use Rattle.block.specs.Block.{block}
 use Rattle.bundle.specs.declared.read.Sizes.{Sizes}
 use Rattle.bundle.specs.declared.read.Reading.{Reading}
 use Rattle.bundle.specs.declared.read.Reading.the-variants.{Accepted, Refused}
-use Rattle.bundle.specs.Layout.{longestBundle, blocks, recordsOf, sizesIn, firstWrong, blocksFor, badCheck, badBeside, badRecord}
+use Rattle.records.specs.Mistake.{mistakeRows}
+use Rattle.bundle.specs.Layout.{longestBundle, blocks, entitiesOf, namesOf, recordsOf, recordBytes, sizesIn, firstWrong, blocksFor, badCheck, badBeside, badRecord}
 
 -- length is 0, above 3,584 or no multiple of 512
 abbrev pub LengthWrong : ℕ → Type 0
 LengthWrong n = (n ≡ 0) ⊎ ((longestBundle < n) ⊎ (n % 512 ≡ 0 → ⊥))
+
+-- record i is the lowest wrong one, and of what is wrong with it this number is due
+pub record MistakeAt (bytes : List ℕ) (number i : ℕ) : Type 0 where
+  pub record-there : LowestBelow (badRecord bytes) (recordsOf bytes) i
+  pub mistake : Due (mistakeRows (entitiesOf bytes) (namesOf bytes) (recordBytes bytes i)) number 0
+
+-- unknown form; number of parts not 2 or 3; entity out of range; role name out of range; a byte that should be zero
+abbrev pub recordRows : List ℕ → List Row
+recordRows bytes =
+    row 61 (FromOne (MistakeAt bytes 61))
+    ∷ row 62 (FromOne (MistakeAt bytes 62))
+    ∷ row 63 (FromOne (MistakeAt bytes 63))
+    ∷ row 64 (FromOne (MistakeAt bytes 64))
+    ∷ row 65 (FromOne (MistakeAt bytes 65))
+    ∷ []
 
 abbrev pub readerRows : List ℕ → List Row
 readerRows bytes =
@@ -29,9 +45,7 @@ readerRows bytes =
     ∷ row 4 (AtZero (blocks bytes ≡ blocksFor (recordsOf bytes) → ⊥))
     -- a record block's bytes beside its records are wrong; the lowest such block
     ∷ row 5 (FromOne (LowestBelow (badBeside bytes) (blocks bytes - 1)))
-    -- a record is wrong; the lowest such record
-    ∷ row 6 (FromOne (LowestBelow (badRecord bytes) (recordsOf bytes)))
-    ∷ []
+    ∷ recordRows bytes
 
 -- the paper's number and place of an answer, and the sizes that it says
 abbrev pub numberOf : Reading → ℕ

@@ -9,6 +9,7 @@ use crate::checks::lowest_bad_check;
 use crate::layout::first_wrong;
 use crate::layout::lowest_bad_beside;
 use crate::stored::lowest_bad_record;
+use crate::stored::mistake_number;
 use base::byte;
 use block::Block;
 
@@ -46,7 +47,7 @@ fn read_records(bundle: &[u8], sizes: Sizes) -> Reading
     let i = lowest_bad_record(bundle, sizes);
     if i < sizes.records {
         return Reading::Refused {
-            number: 6,
+            number: mistake_number(bundle, sizes, i),
             place: (i + 1) as u16,
         };
     }

@@ -6,7 +6,7 @@ use mathlib.Core.Logic.{_⊎_, inl, inr, _↔_}
 use mathlib.Core.List.{List, [], _∷_}
 use native.Mathlib.Omega.{arith}
 use lib.Dec.{eqb}
-use borrow.Author.Tests.{le-ltb, ltb-false}
+use borrow.Author.Tests.{lt-ltb, le-ltb, ltb-true, ltb-false}
 use Rattle.base.specs.Lowest.{lowest, anyBelow}
 use Rattle.base.specs.Refusals.{row, AtZero, AllOnePlace, AllNumbered, Applies, Due, Clear, Judged, refused, passed}
 use Rattle.base.proofs.Lowest.{lowest-is, any-somewhere, any-true, any-false, clash}
@@ -14,13 +14,13 @@ use Rattle.base.proofs.Refusals.{zero-place, judged-same, judged-exactly}
 use Rattle.records.specs.declared.mistake.Mistake.{Mistake}
 use Rattle.records.specs.declared.mistake.Mistake.the-variants.{UnknownForm, NumberOfParts, EntityOutOfRange, NameOutOfRange, ByteNotZero, Nothing}
 use Rattle.records.specs.Kinds.{byteWrong}
-use Rattle.records.specs.Mistake.{SomeByte, mistakeRows, mistakeNumber, Mistaken, someWrong, mistakeKind, recordWrong}
+use Rattle.records.specs.Mistake.{SomeByte, mistakeRows, mistakeNumber, Mistaken, someWrong, mistakeKind, kindNumber, recordWrong}
 
 module _ (E R : ℕ) (bytes : List ℕ) where
-  one-place : AllOnePlace (mistakeRows E R bytes)
+  pub one-place : AllOnePlace (mistakeRows E R bytes)
   one-place = (zero-place _, (zero-place _, (zero-place _, (zero-place _, (zero-place _, tt)))))
 
-  numbered : AllNumbered (mistakeRows E R bytes)
+  pub numbered : AllNumbered (mistakeRows E R bytes)
   numbered = (omega arith, (omega arith, (omega arith, (omega arith, (omega arith, tt)))))
 
   some-byte : (k : ℕ) → someWrong E R bytes k ≡ true → SomeByte E R bytes k
@@ -131,6 +131,34 @@ nothing-kind (suc (suc zero)) e = absurd (omega arith)
 nothing-kind (suc (suc (suc zero))) e = absurd (omega arith)
 nothing-kind (suc (suc (suc (suc zero)))) e = absurd (omega arith)
 nothing-kind (suc (suc (suc (suc (suc k))))) e = omega arith
+
+-- the number of a mistake is that of the first way in which some byte is wrong
+kind-number : (k : ℕ) → mistakeNumber (mistakeAt k) ≡ kindNumber k
+kind-number zero = refl
+kind-number (suc zero) = refl
+kind-number (suc (suc zero)) = refl
+kind-number (suc (suc (suc zero))) = refl
+kind-number (suc (suc (suc (suc zero)))) = refl
+kind-number (suc (suc (suc (suc (suc k))))) = rw (le-ltb (suc (suc (suc (suc (suc k))))) 5 (omega arith))
+
+pub mistake-number : (E R : ℕ) (bytes : List ℕ) (m : Mistake) → Mistaken E R bytes m → mistakeNumber m ≡ kindNumber (mistakeKind E R bytes)
+mistake-number E R bytes m p =
+    ap mistakeNumber (one-mistake E R bytes m (mistakeAt (mistakeKind E R bytes)) p (at-kind E R bytes (mistakeKind E R bytes) refl))
+    ∙ kind-number (mistakeKind E R bytes)
+
+-- a record that is wrong has one of the five mistakes, and its number is due
+pub wrong-due : (E R : ℕ) (bytes : List ℕ) → recordWrong E R bytes ≡ true → Due (mistakeRows E R bytes) (kindNumber (mistakeKind E R bytes)) 0
+unfolding mistakeKind
+wrong-due E R bytes h =
+    let l : mistakeKind E R bytes < 5 = ltb-true (mistakeKind E R bytes) 5 h in
+    by (mistakeKind E R bytes) refl l
+  where
+    by : (k : ℕ) → k ≡ mistakeKind E R bytes → k < 5 → Due (mistakeRows E R bytes) (kindNumber k) 0
+    by k e l = from (at-kind E R bytes k e)
+      where
+        from : Mistaken E R bytes (mistakeAt k) → Due (mistakeRows E R bytes) (kindNumber k) 0
+        from (refused d _) = rw (← kind-number k) d
+        from (passed z _ _ _) = absurd (omega (arith, nothing-kind k z))
 
 -- a record is wrong exactly if it has a mistake
 pub right-record : (E R : ℕ) (bytes : List ℕ) → (recordWrong E R bytes ≡ false) ↔ Mistaken E R bytes Nothing

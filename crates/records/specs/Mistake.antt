@@ -1,9 +1,10 @@
 -- What is wrong with a record: its rows in the paper's order, 61 to 65, each where some of the twelve bytes is wrong in that way. The
 -- mistake of a record is the first row that applies.
-use Prim.Native.Nat.{ℕ, _<_}
+use Prim.Native.Nat.{ℕ, _+_, _<_}
 use mathlib.Core.Path.{_≡_}
-use mathlib.Core.Bool.{Bool, true}
+use mathlib.Core.Bool.{Bool, true, cond}
 use mathlib.Core.List.{List, [], _∷_}
+use lib.Dec.{ltb}
 use Rattle.base.specs.Lowest.{lowest, anyBelow}
 use Rattle.base.specs.Refusals.{Row, row, AtZero, Judged}
 use Rattle.records.specs.declared.mistake.Mistake.{Mistake}
@@ -46,6 +47,10 @@ someWrong E R bytes k = anyBelow (byteWrong E R bytes k) 12
 -- the first way in which some byte is wrong, or 5
 unfoldable pub mistakeKind : ℕ → ℕ → List ℕ → ℕ
 mistakeKind E R bytes = lowest (someWrong E R bytes) 5
+
+-- the paper's number of the first way, 0 for none
+abbrev pub kindNumber : ℕ → ℕ
+kindNumber k = cond (ltb k 5) (61 + k) 0
 
 -- the record is wrong
 abbrev pub recordWrong : ℕ → ℕ → List ℕ → Bool

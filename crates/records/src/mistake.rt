@@ -3,7 +3,7 @@ ghost use mathlib.Core.Path.{_≡_};
 ghost use Rattle.base.specs.Lowest.{lowest};
 ghost use Rattle.base.specs.Byte.{byteAt};
 ghost use Rattle.records.specs.Kinds.{entityByte, nameByte, partsByte, wrongBy, firstOf};
-ghost use Rattle.records.specs.Mistake.{Mistaken, mistakeKind, recordWrong};
+ghost use Rattle.records.specs.Mistake.{Mistaken, mistakeNumber, mistakeKind, recordWrong};
 use base::byte;
 use base::outside;
 
@@ -122,6 +122,20 @@ pub fn mistake_of(entities: usize, names: usize, record: &[u8]) -> Mistake
         3 => Mistake::NameOutOfRange,
         4 => Mistake::ByteNotZero,
         _ => Mistake::Nothing,
+    }
+}
+
+// The paper's number of a mistake, 0 for none.
+pub fn number_of(mistake: Mistake) -> u8
+    ensures { λ r. ⌜ r ≡ mistakeNumber mistake ⌝ }
+{
+    match mistake {
+        Mistake::UnknownForm => 61,
+        Mistake::NumberOfParts => 62,
+        Mistake::EntityOutOfRange => 63,
+        Mistake::NameOutOfRange => 64,
+        Mistake::ByteNotZero => 65,
+        Mistake::Nothing => 0,
     }
 }
 
