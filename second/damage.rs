@@ -1,10 +1,14 @@
-//! Damaged bundles, one function for each of the refusals 1 to 6.
+//! Damaged bundles: one function for each of the refusals 1 to 5, and two for
+//! wrong records, with one mistake or with several.
 //!
 //! A function gets a turn number and goes through its list of damages by it,
 //! so that enough turns try every one. Whether the outcome is refused at all
 //! is not decided here: the reader says what is expected of each case.
 
 use crate::house::one;
+use crate::mistake::{
+    BYTE_NOT_ZERO, ENTITY_OUT_OF_RANGE, LAYOUTS, NAME_OUT_OF_RANGE, NUMBER_OF_PARTS, UNKNOWN_FORM,
+};
 use crate::random::Random;
 use crate::reader::{
     record_start, BLOCK, BLOCK_NUMBER_PLACE, CHECK_MODULUS, CHECK_PLACE, LONGEST_BUNDLE,
@@ -12,6 +16,7 @@ use crate::reader::{
 };
 use crate::shape::{
     random_intersection, random_record, random_role, record_block, seal, seal_all, sized, Draft,
+    Record,
 };
 
 /// Gives damaged blocks right checks, so that the damage itself has to be
@@ -210,16 +215,6 @@ fn change_count_or_order(random: &mut Random, bytes: &mut [u8]) {
     }
 }
 
-/// The layouts of records: what bytes 1 to 11 hold, in each form and number
-/// of parts. `e` is an entity, `n` a name, `c` the number of parts, `z` zero.
-const RECORD_LAYOUTS: [(u8, &str); 5] = [
-    (1, "enezzzzzzzz"),
-    (2, "enenzzzzzzz"),
-    (3, "ennnzzzzzzz"),
-    (4, "encenenzzzz"),
-    (4, "encenenenzz"),
-];
-
 /// A way to spoil a record: one byte of a right record changed, an
 /// intersection with a number of parts that isn't allowed, or all zeros.
 #[derive(Clone, Copy)]
@@ -236,7 +231,7 @@ enum Way {
 /// Every way tried. Only the form of another record may leave it right.
 fn record_ways(entities: u8, names: u8) -> Vec<Way> {
     let mut ways = vec![Way::Parts(0), Way::Parts(1), Way::Parts(4), Way::Zeros];
-    for (layout, (form, bytes)) in RECORD_LAYOUTS.iter().enumerate() {
+    for (layout, (form, bytes)) in LAYOUTS.iter().enumerate() {
         let mut add = |place: usize, values: &[u8]| {
             ways.extend(values.iter().map(|value| Way::Byte {
                 layout,
@@ -244,10 +239,9 @@ fn record_ways(entities: u8, names: u8) -> Vec<Way> {
                 value: *value,
             }));
         };
-        add(0, &[0, 5, form % 4 + 1]);
-        for (index, kind) in bytes.chars().enumerate() {
-            let place = index + 1;
-            match kind {
+        for (place, holds) in bytes.chars().enumerate() {
+            match holds {
+                'f' => add(place, &[0, 5, form % 4 + 1]),
                 'e' => add(place, &[0, entities + 1]),
                 'n' => add(place, &[0, names + 1]),
                 'c' => add(place, &[0, 1, 4, if layout == 3 { 3 } else { 2 }]),
@@ -292,10 +286,7 @@ fn spoil_record(random: &mut Random, draft: &mut Draft, number: usize, way: Way)
             place,
             value,
         } => {
-            let mut record = match RECORD_LAYOUTS[layout].0 {
-                4 => random_intersection(random, draft, head, layout - 1),
-                form => random_record(random, draft, form),
-            };
+            let mut record = record_in_layout(random, draft, layout);
             let too_high = value > 5 && random.once_in(4);
             record[place] = if too_high { 255 } else { value };
             record
@@ -303,6 +294,82 @@ fn spoil_record(random: &mut Random, draft: &mut Draft, number: usize, way: Way)
         Way::Parts(count) => random_intersection(random, draft, head, count),
         Way::Zeros => [0; RECORD],
     };
+}
+
+/// A right record in the layout of this place in the list of layouts.
+fn record_in_layout(random: &mut Random, draft: &Draft, layout: usize) -> Record {
+    let head = random_role(random, draft);
+    match LAYOUTS[layout].0 {
+        4 => random_intersection(random, draft, head, layout - 1),
+        form => random_record(random, draft, form),
+    }
+}
+
+/// The five mistakes that a record can have.
+const MISTAKES: [u8; 5] = [
+    UNKNOWN_FORM,
+    NUMBER_OF_PARTS,
+    ENTITY_OUT_OF_RANGE,
+    NAME_OUT_OF_RANGE,
+    BYTE_NOT_ZERO,
+];
+
+/// How many choices of at least one of the five mistakes there are.
+pub const CHOICES_OF_MISTAKES: usize = 31;
+
+/// The mistakes of a choice: those whose bit is set in 1 plus the choice.
+pub fn chosen_mistakes(choice: usize) -> Vec<u8> {
+    let bits = choice % CHOICES_OF_MISTAKES + 1;
+    let mistakes = MISTAKES.iter().enumerate();
+    mistakes
+        .filter(|(bit, _)| bits >> bit & 1 == 1)
+        .map(|(_, number)| *number)
+        .collect()
+}
+
+/// A record with all of these mistakes, drawn by lot: a right record, and for
+/// each mistake a byte in which it can be made. A number of parts can only be
+/// wrong in an intersection.
+pub fn mistaken_record(random: &mut Random, draft: &Draft, mistakes: &[u8]) -> Record {
+    let parts_wrong = mistakes.contains(&NUMBER_OF_PARTS);
+    let layout = random.between(if parts_wrong { 3 } else { 0 }, 4);
+    let mut record = record_in_layout(random, draft, layout);
+    for number in mistakes {
+        let (holds, values) = match *number {
+            UNKNOWN_FORM => ('f', [0, 5, 6, 255]),
+            NUMBER_OF_PARTS => ('c', [0, 1, 4, 255]),
+            ENTITY_OUT_OF_RANGE => ('e', [0, draft.entities + 1, 128, 255]),
+            NAME_OUT_OF_RANGE => ('n', [0, draft.names + 1, 128, 255]),
+            _ => ('z', [1, 2, 128, 255]),
+        };
+        let places: Vec<usize> = LAYOUTS[layout]
+            .1
+            .match_indices(holds)
+            .map(|(place, _)| place)
+            .collect();
+        record[random.pick(&places)] = random.pick(&values);
+    }
+    record
+}
+
+/// A bundle with a record that has the mistakes of the turn: first, last of a
+/// block, first of the next, last of all or anywhere. Half of the time another
+/// record, lower or higher, has mistakes of its own.
+pub fn damage_records(random: &mut Random, turn: usize, draft: &Draft) -> Vec<u8> {
+    let mut damaged = draft.clone();
+    let count = draft.records.len();
+    let anywhere = random.between(1, count);
+    let places = [1, 40, 41, count, anywhere];
+    let number = places[turn / CHOICES_OF_MISTAKES % places.len()].min(count);
+    damaged.records[number - 1] = mistaken_record(random, draft, &chosen_mistakes(turn));
+    if random.once_in(2) {
+        let other = random.between(1, count);
+        let choice = random.below(CHOICES_OF_MISTAKES);
+        if other != number {
+            damaged.records[other - 1] = mistaken_record(random, draft, &chosen_mistakes(choice));
+        }
+    }
+    damaged.bytes()
 }
 
 /// Leaves the check of a record's block as it was before the damage.
@@ -315,13 +382,14 @@ fn restore_check(bytes: &mut [u8], sound: &[u8], number: usize) {
 /// Any one of the damages above.
 pub fn damage_somehow(random: &mut Random, draft: &Draft) -> Vec<u8> {
     let turn = random.below(10_000);
-    match random.below(6) {
+    match random.below(7) {
         0 => damage_length(random, turn, draft),
         1 => damage_check(random, turn, draft),
         2 => damage_first_block(random, turn, draft),
         3 => damage_number_of_blocks(random, turn, draft),
         4 => damage_block_end(random, turn, draft),
-        _ => damage_record(random, turn, draft),
+        5 => damage_record(random, turn, draft),
+        _ => damage_records(random, turn, draft),
     }
 }
 

@@ -31,7 +31,7 @@ const fn group(name: &'static str, weight: usize, make: Maker) -> Group {
 }
 
 /// All groups; the group byte of a case is the place in this list.
-pub const GROUPS: [Group; 35] = [
+pub const GROUPS: [Group; 36] = [
     group("small-bundles", 4, small_bundles),
     group("grown-bundles", 4, grown_bundles),
     group("every-number-of-records", 4, every_number_of_records),
@@ -48,7 +48,8 @@ pub const GROUPS: [Group; 35] = [
     group("first-block", 3, first_block),
     group("number-of-blocks", 2, number_of_blocks),
     group("block-ends", 3, block_ends),
-    group("wrong-records", 17, wrong_records),
+    group("wrong-records", 19, wrong_records),
+    group("several-mistakes", 9, several_mistakes),
     group("questions-out-of-range", 2, questions_out_of_range),
     group("lent-lengths", 6, lent_lengths),
     group("several-faults", 3, several_faults),
@@ -332,6 +333,17 @@ fn block_ends(random: &mut Random, turn: usize) -> Case {
 fn wrong_records(random: &mut Random, turn: usize) -> Case {
     let draft = sound_draft(random);
     let bytes = damage::damage_record(random, turn, &draft);
+    damaged_case(random, &draft, bytes)
+}
+
+/// Records with every choice of the five mistakes, half of them in bundles
+/// with as many records as there can be.
+fn several_mistakes(random: &mut Random, turn: usize) -> Case {
+    let mut draft = sound_draft(random);
+    if turn % 2 == 0 {
+        draft = shape::sized(random, 240);
+    }
+    let bytes = damage::damage_records(random, turn, &draft);
     damaged_case(random, &draft, bytes)
 }
 

@@ -1,14 +1,18 @@
 //! The figures that the specification itself states, and the two ways of
 //! working out membership held against each other.
 
+use crate::damage::{chosen_mistakes, mistaken_record};
 use crate::forge::{self, Ground};
 use crate::house::{
-    house, house_slip, house_without_5, longest_chain, longest_walk, one, over, self_contained,
-    signer_question, GUILD, NINA, TOMAS, UPLAND,
+    full, house, house_slip, house_without_5, longest_chain, longest_walk, one, over,
+    self_contained, signer_question, GUILD, NINA, TOMAS, UPLAND,
 };
 use crate::membership::{possible_table, sure_walk, walk_by_definition, Table};
+use crate::mistake::mistake;
 use crate::random::Random;
-use crate::reader::{block_check, read_bundle, Body, Bundle, Credential, Role, BLOCK};
+use crate::reader::{
+    block_check, read_bundle, Body, Bundle, Credential, Refusal, Role, BLOCK, RECORD,
+};
 use crate::service::{ask, check, Answer, Question};
 use crate::shape::{self, Draft};
 use crate::slip::{bytes_of, check_slip, lines_of, write_slip, LINE};
@@ -36,7 +40,10 @@ pub fn try_figures() -> bool {
     try_checks(&mut tally);
     try_house_slip(&mut tally);
     try_walks(&mut tally);
+    try_mistakes(&mut tally);
+    try_first_mistakes(&mut tally);
     for seed in 0..400 {
+        try_mistaken_records(&mut tally, seed);
         try_membership(&mut tally, seed);
         try_slips(&mut tally, seed);
     }
@@ -122,6 +129,98 @@ fn try_walks(tally: &mut Tally) {
     let slip = write_slip(&walk, goal);
     let stated = check_slip(&bundle, goal, &slip).map(|facts| facts.len());
     tally.expect("lines of the long walk", Ok(32 * 208 + 31), stated);
+}
+
+/// Records over 6 entities and 4 names, trailing zeros left off, and what is
+/// wrong with each. The numbers are written by hand from the rules.
+const RECORDS_AND_MISTAKES: [(&[u8], Option<u8>); 44] = [
+    (&[1, 6, 4, 6], None),
+    (&[2, 6, 4, 6, 4], None),
+    (&[3, 6, 4, 4, 4], None),
+    (&[4, 6, 4, 2, 6, 4, 6, 4], None),
+    (&[4, 6, 4, 3, 6, 4, 6, 4, 6, 4], None),
+    (&[], Some(61)),
+    (&[5, 1, 1, 1], Some(61)),
+    (&[255, 1, 1, 2, 1, 1, 1, 1], Some(61)),
+    (&[0, 7, 5, 9, 7, 5, 7, 5, 7, 5, 1, 1], Some(61)),
+    (&[255; 12], Some(61)),
+    (&[4, 1, 1], Some(62)),
+    (&[4, 1, 1, 1, 1, 1], Some(62)),
+    (&[4, 1, 1, 4, 1, 1, 1, 1, 1, 1, 1, 1], Some(62)),
+    (&[4, 0, 0, 255, 0, 0, 0, 0, 0, 0, 1, 1], Some(62)),
+    (&[4], Some(62)),
+    (&[1], Some(63)),
+    (&[1, 0, 1, 1], Some(63)),
+    (&[1, 7, 1, 1], Some(63)),
+    (&[1, 1, 1, 0], Some(63)),
+    (&[1, 1, 1, 7], Some(63)),
+    (&[2, 1, 1, 7, 1], Some(63)),
+    (&[3, 7, 1, 1, 1], Some(63)),
+    (&[4, 1, 1, 2, 7, 1, 1, 1], Some(63)),
+    (&[4, 1, 1, 2, 1, 1, 0, 1], Some(63)),
+    (&[4, 1, 1, 3, 1, 1, 1, 1, 7, 1], Some(63)),
+    (&[4, 1, 1, 3, 1, 1, 1, 1], Some(63)),
+    (&[2, 1, 0, 7, 0, 1], Some(63)),
+    (&[4, 1, 5, 2, 1, 1, 7, 1, 0, 0, 0, 9], Some(63)),
+    (&[1, 1, 0, 1], Some(64)),
+    (&[1, 1, 5, 1], Some(64)),
+    (&[2, 1, 1, 6, 0], Some(64)),
+    (&[2, 1, 1, 6, 5], Some(64)),
+    (&[3, 1, 1, 5, 1], Some(64)),
+    (&[3, 1, 1, 6, 1], Some(64)),
+    (&[3, 1, 1, 1, 0], Some(64)),
+    (&[4, 1, 1, 2, 1, 1, 1, 5], Some(64)),
+    (&[4, 1, 1, 3, 6, 1, 6, 1, 6, 6], Some(64)),
+    (&[1, 1, 5, 1, 1], Some(64)),
+    (&[1, 1, 1, 1, 1], Some(65)),
+    (&[2, 1, 1, 1, 1, 0, 0, 0, 0, 0, 0, 255], Some(65)),
+    (&[3, 1, 1, 1, 1, 1], Some(65)),
+    (&[4, 1, 1, 2, 1, 1, 1, 1, 1, 1], Some(65)),
+    (&[4, 1, 1, 2, 1, 1, 1, 1, 0, 1], Some(65)),
+    (&[4, 1, 1, 3, 1, 1, 1, 1, 1, 1, 1], Some(65)),
+];
+
+fn try_mistakes(tally: &mut Tally) {
+    for (used, expected) in RECORDS_AND_MISTAKES {
+        let mut record = used.to_vec();
+        record.resize(RECORD, 0);
+        tally.expect(
+            &format!("record {used:?}"),
+            expected,
+            mistake(6, 4, &record),
+        );
+    }
+    let largest = [4, 255, 255, 3, 255, 255, 255, 255, 255, 255, 0, 0];
+    tally.expect("no number is too high", None, mistake(255, 255, &largest));
+    tally.expect("the highest entity", Some(63), mistake(254, 255, &largest));
+    tally.expect("the highest name", Some(64), mistake(255, 254, &largest));
+    tally.expect("without entities", Some(63), mistake(0, 255, &largest));
+}
+
+/// Of several wrong records the lowest counts, whatever is wrong with it.
+fn try_first_mistakes(tally: &mut Tally) {
+    let mut draft = full();
+    let outcome = |draft: &Draft| read_bundle(&draft.bytes()).err();
+    for (number, place, byte) in [(65, 240, 11), (61, 200, 0), (65, 41, 11), (61, 40, 0)] {
+        draft.records[place - 1][byte] = 5;
+        tally.expect(
+            "a lower record",
+            Some(Refusal::new(number, place)),
+            outcome(&draft),
+        );
+    }
+    draft.records[0] = [4, 1, 7, 2, 1, 1, 1, 1, 1, 0, 0, 0];
+    tally.expect("record 1", Some(Refusal::new(64, 1)), outcome(&draft));
+}
+
+/// A record that is made with some mistakes has the lowest of them.
+fn try_mistaken_records(tally: &mut Tally, seed: u64) {
+    let mut random = Random::new(seed);
+    let draft = shape::sized(&mut random, 0);
+    let mistakes = chosen_mistakes(seed as usize);
+    let record = mistaken_record(&mut random, &draft, &mistakes);
+    let came = mistake(draft.entities, draft.names, &record);
+    tally.expect("a mistaken record", Some(mistakes[0]), came);
 }
 
 fn read_draft(draft: &Draft) -> Bundle {

@@ -20,6 +20,7 @@ mod figures;
 mod forge;
 mod house;
 mod membership;
+mod mistake;
 mod random;
 mod reader;
 mod run;

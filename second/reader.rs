@@ -1,10 +1,12 @@
 //! The reader of bundles.
 //!
 //! It turns the bytes of a bundle into a list of credentials, or says which
-//! of the refusals 1 to 6 applies and at what place. Each refusal has its own
-//! small function, and `read_bundle` asks them in the order of their numbers,
-//! so that the lowest number always goes first.
+//! of the refusals 1 to 5 and 61 to 65 applies and at what place. Each of 1 to
+//! 5 has its own small function; what can be wrong with a record is one rule,
+//! in `mistake.rs`. `read_bundle` asks them in this order, and the first that
+//! applies is the answer.
 
+use crate::mistake::mistake;
 use std::collections::BTreeSet;
 
 pub const BLOCK: usize = 512;
@@ -83,18 +85,6 @@ struct Heading {
 }
 
 impl Heading {
-    fn entity(&self, entity: u8) -> Option<u8> {
-        (1..=self.entities).contains(&entity).then_some(entity)
-    }
-
-    fn name(&self, name: u8) -> Option<u8> {
-        (1..=self.names).contains(&name).then_some(name)
-    }
-
-    fn role(&self, entity: u8, name: u8) -> Option<Role> {
-        Some(Role::new(self.entity(entity)?, self.name(name)?))
-    }
-
     /// The number of records that record block `block` (from 1) must hold.
     fn records_of_block(&self, block: usize) -> usize {
         let before = (block - 1) * RECORDS_IN_BLOCK;
@@ -102,7 +92,8 @@ impl Heading {
     }
 }
 
-/// Reads a bundle, or gives the lowest refusal among 1 to 6.
+/// Reads a bundle, or gives the first refusal that applies, of 1 to 5 and
+/// then 61 to 65.
 pub fn read_bundle(bytes: &[u8]) -> Result<Bundle, Refusal> {
     refuse_length(bytes)?;
     refuse_checks(bytes)?;
@@ -201,13 +192,16 @@ fn refuse_block_ends(bytes: &[u8], heading: &Heading) -> Result<(), Refusal> {
     Ok(())
 }
 
+/// Reads the records, or says what is wrong with the lowest wrong one.
 fn read_records(bytes: &[u8], heading: &Heading) -> Result<Vec<Credential>, Refusal> {
     let mut credentials = Vec::new();
     for number in 1..=heading.credentials {
         let start = record_start(number);
         let record = &bytes[start..start + RECORD];
-        let credential = read_record(record, heading).ok_or(Refusal::new(6, number))?;
-        credentials.push(credential);
+        if let Some(wrong) = mistake(heading.entities, heading.names, record) {
+            return Err(Refusal::new(wrong, number));
+        }
+        credentials.push(read_record(record));
     }
     Ok(credentials)
 }
@@ -219,37 +213,24 @@ pub fn record_start(number: usize) -> usize {
     block * BLOCK + place * RECORD
 }
 
-/// Reads one record, or gives nothing when it is wrong.
-fn read_record(record: &[u8], heading: &Heading) -> Option<Credential> {
-    let head = heading.role(record[1], record[2])?;
-    let (body, used) = match record[0] {
-        1 => (Body::Member(heading.entity(record[3])?), 4),
-        2 => (Body::Contained(heading.role(record[3], record[4])?), 5),
-        3 => {
-            let first = heading.name(record[3])?;
-            let second = heading.name(record[4])?;
-            (Body::Linked { first, second }, 5)
+/// Reads one record in which nothing is wrong.
+fn read_record(record: &[u8]) -> Credential {
+    let body = match record[0] {
+        1 => Body::Member(record[3]),
+        2 => Body::Contained(Role::new(record[3], record[4])),
+        3 => Body::Linked {
+            first: record[3],
+            second: record[4],
+        },
+        _ => {
+            let pairs = record[4..].chunks(2).take(usize::from(record[3]));
+            Body::Intersection(pairs.map(|pair| Role::new(pair[0], pair[1])).collect())
         }
-        4 => {
-            let parts = read_parts(record, heading)?;
-            let used = 4 + 2 * parts.len();
-            (Body::Intersection(parts), used)
-        }
-        _ => return None,
     };
-    all_zero(&record[used..]).then_some(Credential { head, body })
-}
-
-/// Reads the two or three parts of an intersection.
-fn read_parts(record: &[u8], heading: &Heading) -> Option<Vec<Role>> {
-    let count = usize::from(record[3]);
-    if !(2..=3).contains(&count) {
-        return None;
+    Credential {
+        head: Role::new(record[1], record[2]),
+        body,
     }
-    record[4..4 + 2 * count]
-        .chunks(2)
-        .map(|pair| heading.role(pair[0], pair[1]))
-        .collect()
 }
 
 fn all_zero(bytes: &[u8]) -> bool {

@@ -21,11 +21,43 @@ struct Disagreement {
     difference: String,
 }
 
+/// How often each outcome was expected, and at how many places: of a refusal
+/// by its number, otherwise by the verdict.
+#[derive(Default)]
+struct Outcomes {
+    seen: BTreeMap<String, (usize, BTreeSet<u16>)>,
+}
+
+impl Outcomes {
+    fn note(&mut self, answer: &Answer) {
+        let (count, places) = self.seen.entry(outcome(answer)).or_default();
+        *count += 1;
+        places.insert(answer.place);
+    }
+
+    fn print(&self) {
+        for (outcome, (count, places)) in &self.seen {
+            let different = places.len();
+            println!("outcome: {outcome}: {count} cases, different places: {different}");
+        }
+    }
+}
+
+/// The outcome of an answer in words.
+fn outcome(answer: &Answer) -> String {
+    match (answer.number, answer.verdict) {
+        (0, 0) => "accepted".to_string(),
+        (0, verdict) => ["YES", "NO", "UNSURE"][usize::from(verdict) - 1].to_string(),
+        (number, _) => format!("refused {number:2}"),
+    }
+}
+
 /// Compares a file of cases with a file of answers; true when all agree.
 pub fn compare(cases_path: &str, answers_path: &str) -> io::Result<bool> {
     let mut cases = BufReader::new(File::open(cases_path)?);
     let mut answers = BufReader::new(File::open(answers_path)?);
     let mut counts = vec![0; GROUPS.len()];
+    let mut outcomes = Outcomes::default();
     let mut disagreements = 0;
     let mut smallest: Option<Disagreement> = None;
     let mut number = 0;
@@ -35,7 +67,9 @@ pub fn compare(cases_path: &str, answers_path: &str) -> io::Result<bool> {
             return Ok(false);
         };
         counts[usize::from(case.group)] += 1;
-        if let Err(difference) = agree(&case, &came) {
+        let expected = own_answer(&case);
+        outcomes.note(&Answer::unpacked(expected.packed));
+        if let Err(difference) = agree(&case, &expected, &came) {
             disagreements += 1;
             let size = case.size();
             if smallest
@@ -55,19 +89,16 @@ pub fn compare(cases_path: &str, answers_path: &str) -> io::Result<bool> {
         println!("disagree: the file of answers goes on after the last case");
         return Ok(false);
     }
-    report(&counts, disagreements, smallest.as_ref());
-    Ok(smallest.is_none())
-}
-
-fn report(counts: &[usize], disagreements: usize, smallest: Option<&Disagreement>) {
     if let Some(found) = smallest {
         println!("disagree: {disagreements} cases; the smallest is");
-        print_disagreement(found);
-        return;
+        print_disagreement(&found);
+        return Ok(false);
     }
-    for (group, count) in GROUPS.iter().zip(counts) {
+    for (group, count) in GROUPS.iter().zip(&counts) {
         println!("agree: {} {}", group.name, count);
     }
+    outcomes.print();
+    Ok(true)
 }
 
 fn print_disagreement(found: &Disagreement) {
@@ -93,8 +124,7 @@ fn hex(bytes: &[u8]) -> String {
 }
 
 /// Says nothing when the answer that came is right, else what is wrong.
-fn agree(case: &Case, came: &Came) -> Result<(), String> {
-    let expected = own_answer(case);
+fn agree(case: &Case, expected: &Came, came: &Came) -> Result<(), String> {
     let wanted = Answer::unpacked(expected.packed);
     let got = Answer::unpacked(came.packed);
     let said_yes = matches!(case.task, Task::Search(_)) && wanted.verdict == YES;
@@ -170,12 +200,7 @@ pub fn survey(cases_path: &str) -> io::Result<()> {
     let mut counts: BTreeMap<(u8, String), usize> = BTreeMap::new();
     while let Some(case) = Case::read(&mut cases)? {
         let answer = Answer::unpacked(own_answer(&case).packed);
-        let outcome = match (answer.number, answer.verdict) {
-            (0, 0) => "accepted".to_string(),
-            (0, verdict) => ["YES", "NO", "UNSURE"][usize::from(verdict) - 1].to_string(),
-            (number, _) => format!("refused {number:2}"),
-        };
-        *counts.entry((case.group, outcome)).or_default() += 1;
+        *counts.entry((case.group, outcome(&answer))).or_default() += 1;
     }
     for ((group, outcome), count) in counts {
         let name = GROUPS[usize::from(group)].name;

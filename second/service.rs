@@ -2,7 +2,8 @@
 //!
 //! Each takes everything a caller hands over, and gives everything that comes
 //! back: the answer and what happens to lent memory. Refusals are asked for in
-//! the order of their numbers.
+//! the order of the table of refusals: the reader's own, 1 to 5 and 61 to 65,
+//! then 7 and what follows.
 
 use crate::membership::{possible_table, sure_walk, Fact, Table};
 use crate::reader::{read_bundle, Bundle, Refusal};
