@@ -17,19 +17,31 @@
  *     bits 16 to 31  rounds   the number of rounds over the credentials held; 0 with a refusal, and from the check
  *     bits  0 to 15  lines    the lines of the slip written or accepted; 0 otherwise
  *
- * The refusals. The lower number goes first, and the place is the lowest that applies:
+ * The refusals. The first row that applies is the answer, and the place is the lowest that applies. The rows 61 to 65 are one
+ * step in that order: the place is the lowest wrong record, and of what is wrong with that record the first row is the answer.
  *
  *      1  the bundle's length is 0, above 3,584 or no multiple of 512; place 0
  *      2  the check of a block differs from the one that stands in it; place: the block, from 0
  *      3  block 0 breaks its layout: edition, entities, names, records, marks, or a byte that should be zero; place 0
  *      4  the number of blocks does not fit the number of records; place 0
  *      5  in a record block an unused place, a byte that should be zero, its number or its count is wrong; place: the block
- *      6  a record is wrong: its form, its parts, an entity, a role name, or a byte that should be zero; place: the record, from 1
+ *     61  a record's form, its byte 0, is not 1 to 4; place: the record, from 1
+ *     62  an intersection (form 4) has not 2 or 3 parts in byte 3; place: the record
+ *     63  an entity of a record is 0 or above the bundle's number of entities; place: the record
+ *     64  a role name of a record is 0 or above the bundle's number of names; place: the record
+ *     65  a byte of a record that its form does not use is not zero; place: the record
  *      7  the question names an entity or a role name that the bundle does not have, or 0; place 0
  *      8  a lent table has fewer than 512 words, or the slip buffer fewer than 61,440 bytes (search only); place 0
  *      9  the slip's length is 0, above 61,440 or no multiple of 8 (check only); place 0
  *     10  a line of the slip is not right: its credential, a premise, or what the premises state (check only); place: the line, from 1
  *     11  every line is right, and the last states another fact than the question's (check only); place 0
+ *
+ * The twelve bytes of a record, from 0: the form, the issuer, a role name, and then by the form
+ *
+ *      1  an entity at 3; zero from 4 on
+ *      2  an entity at 3, a role name at 4; zero from 5 on
+ *      3  role names at 3 and 4; zero from 5 on
+ *      4  the number of parts at 3; entities at 4, 6 and, with three parts, 8; a role name behind each; zero from 8 or 10 on
  */
 #ifndef PORTERTRUNK_H
 #define PORTERTRUNK_H
