@@ -4,8 +4,12 @@
  * target/staticlib/libcapi.a, which `rt staticlib capi` writes (x86-64, System V calling convention).
  *
  * A slice is passed as a pointer and the number of its elements. Where that number is 0 the pointer
- * may be anything. Memory that is lent for writing (sure, possible, slip of the search) must not
- * overlap any other memory of the same call. Nothing is kept after the call returns.
+ * may be anything. Nothing is kept after the call returns.
+ *
+ * Nothing is asked of what the memory holds. What a C caller must keep is what the proof's own language
+ * guarantees of every slice: that many elements stand at the pointer, and may be read; the tables are
+ * aligned to 4 bytes; memory that is lent for writing (sure, possible, slip of the search) may be written,
+ * overlaps no other memory of the same call, and no other thread touches it meanwhile.
  *
  * A question is three numbers: is the person d a member of the role r of the entity a?
  *
