@@ -10,7 +10,7 @@ use Rattle.base.proofs.Flags.{Tells, or-tells-three, eq-tells, lt-tells, not-te
 use Rattle.base.proofs.Lowest.{Missed}
 use Rattle.base.proofs.Refusals.{none-missed, missed-no}
 use Rattle.block.specs.Block.{block}
-use Rattle.bundle.specs.Layout.{lengthWrong, blocks, recordsOf, firstWrong, blocksFor, badCheck, badBeside, badRecord}
+use Rattle.bundle.specs.Layout.{longestBundle, lengthWrong, blocks, recordsOf, firstWrong, blocksFor, badCheck, badBeside, badRecord}
 use Rattle.bundle.specs.Rows.{LengthWrong, readerRows}
 use Rattle.bundle.proofs.RecordRows.{clear-records, records-clear}
 
@@ -23,7 +23,7 @@ pub record Passed (bytes : List ℕ) : Type 0 where
   pub right-records : Missed (badRecord bytes) (recordsOf bytes)
 
 length-tells : (n : ℕ) → Tells (lengthWrong n) (LengthWrong n)
-length-tells n = or-tells-three _ _ _ (eq-tells n 0) (lt-tells 3584 n) (not-tells _ (eq-tells _ 0))
+length-tells n = or-tells-three _ _ _ (eq-tells n 0) (lt-tells longestBundle n) (not-tells _ (eq-tells _ 0))
 
 module _ (bytes : List ℕ) where
   fits : ((blocks bytes ≡ blocksFor (recordsOf bytes) → ⊥) → ⊥) → blocks bytes ≡ blocksFor (recordsOf bytes)

@@ -17,7 +17,7 @@ use Rattle.bundle.specs.declared.read.Sizes.{Sizes}
 use Rattle.bundle.specs.declared.read.Reading.{Reading}
 use Rattle.bundle.specs.declared.read.Reading.the-variants.{Accepted, Refused}
 use Rattle.block.specs.Block.{block}
-use Rattle.bundle.specs.Layout.{sizesIn, lengthWrong, blocks, recordsOf, firstWrong, blocksFor, badCheck, badBeside}
+use Rattle.bundle.specs.Layout.{longestBundle, sizesIn, lengthWrong, blocks, recordsOf, firstWrong, blocksFor, badCheck, badBeside}
 use Rattle.bundle.specs.Rows.{MistakeAt, recordRows, readerRows, numberOf, placeOf, Reads, Accepts}
 use Rattle.bundle.specs.Reading.{recordTests, besideTests, countTests, firstTests, checkTests, readerTests, readBy, readOf, readingFor}
 use Rattle.bundle.proofs.RecordRows.{mistake-place, records-told}
@@ -44,7 +44,7 @@ module _ (bytes : List ℕ) where
   unfolding readerTests checkTests firstTests countTests besideTests
   tests-told =
       told-more (test 1 (zeroIf (lengthWrong (length bytes)))) (checkTests bytes) _ _ refl
-      (zero-finds _ (or-tells-three _ _ _ (eq-tells (length bytes) 0) (lt-tells 3584 (length bytes)) (not-tells _ (eq-tells (length bytes % 512) 0))))
+      (zero-finds _ (or-tells-three _ _ _ (eq-tells (length bytes) 0) (lt-tells longestBundle (length bytes)) (not-tells _ (eq-tells (length bytes % 512) 0))))
       (λ _. told-more (test 2 (lowestPlace (badCheck bytes) (blocks bytes))) (firstTests bytes) _ _ refl (lowest-finds _ _)
       (λ _. told-more (test 3 (zeroIf (firstWrong (block bytes 0)))) (countTests bytes) _ _ refl (zero-finds _ (flag-tells _))
       (λ _. told-more (test 4 (zeroIf (not (eqb (blocks bytes) (blocksFor (recordsOf bytes)))))) (besideTests bytes) _ _ refl

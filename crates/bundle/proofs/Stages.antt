@@ -12,16 +12,16 @@ use Rattle.base.proofs.Flags.{or-false}
 use Rattle.block.specs.Block.{block}
 use Rattle.bundle.specs.declared.read.Sizes.{Sizes}
 use Rattle.bundle.specs.declared.read.Reading.the-variants.{Accepted, Refused}
-use Rattle.bundle.specs.Layout.{lengthWrong, blocks, recordsOf, sizesIn, firstWrong, blocksFor, badCheck, badBeside, badRecord}
+use Rattle.bundle.specs.Layout.{longestBundle, lengthWrong, blocks, recordsOf, sizesIn, firstWrong, blocksFor, badCheck, badBeside, badRecord}
 use Rattle.bundle.specs.Reading.{mistakeIn, recordTests, besideTests, countTests, firstTests, checkTests, readerTests, readBy, readOf}
 
 -- a right length is that of one to seven whole blocks
 pub length-right : (n : ℕ) → lengthWrong n ≡ false → (1 ≤ n / 512) × (n / 512 ≤ 7) × (n ≡ 512 * (n / 512))
 length-right n h =
-    let (s, m) = or-false (eqb n 0 || ltb 3584 n) (not (eqb (n % 512) 0)) h in
-    let (z, l) = or-false (eqb n 0) (ltb 3584 n) s in
+    let (s, m) = or-false (eqb n 0 || ltb longestBundle n) (not (eqb (n % 512) 0)) h in
+    let (z, l) = or-false (eqb n 0) (ltb longestBundle n) s in
     let nonzero : n ≡ 0 → ⊥ = eqb-false n 0 z in
-    let most : n ≤ 3584 = ltb-false 3584 n l in
+    let most : n ≤ 3584 = ltb-false longestBundle n l in
     let whole : n % 512 ≡ 0 = eqb-true (n % 512) 0 (not-false (eqb (n % 512) 0) m) in
     omega arith
 
