@@ -1,8 +1,9 @@
 -- The reader of records is not too strict: the twelve bytes of a valid credential, of each form and with two parts or three, have no mistake,
--- and they are that credential again.
+-- and they are that credential again. So a record has no mistake exactly if its twelve bytes are those of a valid credential.
 use Prim.Native.Nat.{ℕ, _≤_}
-use mathlib.Core.Path.{_≡_, refl}
+use mathlib.Core.Path.{_≡_, refl, sym, _∙_}
 use mathlib.Core.Bool.{false}
+use mathlib.Core.Logic.{_↔_}
 use mathlib.Core.List.{List, [], _∷_, List·Memᴰ·head, List·Memᴰ·tail}
 use native.Mathlib.Omega.{arith}
 use lib.ListN.{length}
@@ -13,8 +14,9 @@ use Rattle.base.proofs.Flags.{inside-flag}
 use Rattle.records.specs.Kinds.{wrongBy}
 use Rattle.records.specs.Mistake.{Mistaken, recordWrong}
 use Rattle.records.specs.declared.mistake.Mistake.the-variants.{Nothing}
-use Rattle.records.specs.Bytes.{credentialIn, bytesOf}
+use Rattle.records.specs.Bytes.{credentialIn, bytesOf, twelveIn}
 use Rattle.records.proofs.Mistakes.{right-record}
+use Rattle.records.proofs.ValidRecord.{valid-record, own-bytes}
 
 module _ (E R : ℕ) where
   entity-flag : (A : ℕ) → IsEntity E A → outside E A ≡ false
@@ -56,3 +58,15 @@ module _ (E R : ℕ) where
   encoded-credential (A · r ⟵ intersection (B · s ∷ C · t ∷ [])) v = refl
   encoded-credential (A · r ⟵ intersection (B · s ∷ C · t ∷ D · u ∷ [])) v = refl
   encoded-credential (A · r ⟵ intersection (ρ ∷ σ ∷ τ ∷ υ ∷ more)) (_, (_, l, _)) = absurd (omega arith)
+
+  -- what is wrong with a record is told by its twelve bytes
+  same-twelve : (bytes : List ℕ) → recordWrong E R (twelveIn bytes) ≡ recordWrong E R bytes
+  unfolding lowest
+  same-twelve bytes = refl
+
+  -- a record has no mistake exactly if its twelve bytes are those of a valid credential
+  pub valid-exactly : (bytes : List ℕ) → Mistaken E R bytes Nothing ↔ ((c : Credential) × Valid E R c × (twelveIn bytes ≡ bytesOf c))
+  valid-exactly bytes = (
+    λ m. let right = right-record E R bytes .1 m in (credentialIn bytes, valid-record E R bytes right, sym (own-bytes E R bytes right)),
+    λ (c, v, e). right-record E R bytes .0 (sym (same-twelve bytes) ∙ rw e (right-bytes c v)),
+  )

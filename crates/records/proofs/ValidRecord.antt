@@ -16,7 +16,7 @@ use Rattle.base.proofs.Flags.{and-false, either, inside}
 use Rattle.records.specs.Kinds.{entityByte, nameByte, partsByte, zeroByte, wrongBy, byteWrong}
 use Rattle.records.specs.Mistake.{someWrong, recordWrong}
 use Rattle.records.specs.Form.{recordIn, intersectionIn, credentialOf}
-use Rattle.records.specs.Bytes.{bodyIn, credentialIn}
+use Rattle.records.specs.Bytes.{bodyIn, credentialIn, bytesOf, twelveIn}
 
 -- the forms of a record, with the number of parts of an intersection
 pub data Form (form parts : ℕ) : Type 0 where
@@ -104,3 +104,65 @@ module _ (E R : ℕ) (bytes : List ℕ) (h : recordWrong E R bytes ≡ false) wh
 
   pub record-is : credentialOf (recordIn bytes) ≡ some (credentialIn bytes)
   record-is = same-credential form
+
+  -- a byte that should be zero
+  zero-at : (i : ℕ) → i < 12 → zeroByte (byteAt bytes 0) (byteAt bytes 3) i ≡ true → byteAt bytes i ≡ 0
+  unfolding wrongBy
+  zero-at i l e = eqb-true (byteAt bytes i) 0 (not-false _ (and-false _ _ (right 4 (omega arith) i l) e))
+
+  -- its twelve bytes are those of its credential
+  by-form : Form (byteAt bytes 0) (byteAt bytes 3) → bytesOf (credentialIn bytes) ≡ twelveIn bytes
+  unfolding bytesOf credentialIn
+  by-form (an-entity f) =
+      rw (
+        f,
+        zero-at 4 (omega arith) (rw f),
+        zero-at 5 (omega arith) (rw f),
+        zero-at 6 (omega arith) (rw f),
+        zero-at 7 (omega arith) (rw f),
+        zero-at 8 (omega arith) (rw f),
+        zero-at 9 (omega arith) (rw f),
+        zero-at 10 (omega arith) (rw f),
+        zero-at 11 (omega arith) (rw f),
+      )
+  by-form (a-role f) =
+      rw (
+        f,
+        zero-at 5 (omega arith) (rw f),
+        zero-at 6 (omega arith) (rw f),
+        zero-at 7 (omega arith) (rw f),
+        zero-at 8 (omega arith) (rw f),
+        zero-at 9 (omega arith) (rw f),
+        zero-at 10 (omega arith) (rw f),
+        zero-at 11 (omega arith) (rw f),
+      )
+  by-form (a-link f) =
+      rw (
+        f,
+        zero-at 5 (omega arith) (rw f),
+        zero-at 6 (omega arith) (rw f),
+        zero-at 7 (omega arith) (rw f),
+        zero-at 8 (omega arith) (rw f),
+        zero-at 9 (omega arith) (rw f),
+        zero-at 10 (omega arith) (rw f),
+        zero-at 11 (omega arith) (rw f),
+      )
+  by-form (two-parts f p) =
+      rw (
+        f,
+        p,
+        zero-at 8 (omega arith) (simp (f, p)),
+        zero-at 9 (omega arith) (simp (f, p)),
+        zero-at 10 (omega arith) (simp (f, p)),
+        zero-at 11 (omega arith) (simp (f, p)),
+      )
+  by-form (three-parts f p) =
+      rw (
+        f,
+        p,
+        zero-at 10 (omega arith) (simp (f, p)),
+        zero-at 11 (omega arith) (simp (f, p)),
+      )
+
+  pub own-bytes : bytesOf (credentialIn bytes) ≡ twelveIn bytes
+  own-bytes = by-form form

@@ -50,3 +50,9 @@ twelve bytes = bytes ++ replicate (12 - length bytes) 0
 -- the form, the issuer, the role name, and the body
 unfoldable pub bytesOf : Credential → List ℕ
 bytesOf (A · r ⟵ e) = twelve (formOf e ∷ A ∷ r ∷ bodyBytes e)
+
+-- the twelve bytes of a record, as they stand in any list
+abbrev pub twelveIn : List ℕ → List ℕ
+twelveIn bytes =
+    byteAt bytes 0 ∷ byteAt bytes 1 ∷ byteAt bytes 2 ∷ byteAt bytes 3 ∷ byteAt bytes 4 ∷ byteAt bytes 5 ∷ byteAt bytes 6 ∷ byteAt bytes 7
+    ∷ byteAt bytes 8 ∷ byteAt bytes 9 ∷ byteAt bytes 10 ∷ byteAt bytes 11 ∷ []
