@@ -26,7 +26,7 @@ use said::Said;
 use said::write_text;
 use search::search;
 use search::slip::Slip;
-use tables::table::Table;
+use words::table::Table;
 
 // The bytes of a question before its bundle: the person, the entity and the role name.
 struct Question;

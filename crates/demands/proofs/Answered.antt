@@ -32,7 +32,7 @@ use Rattle.answers.specs.Answer.{Outcome, verdictNumber}
 use Rattle.checker.specs.declared.check.Checked.the-variants.{Accepted}
 use Rattle.checker.specs.Rows.{Checks}
 use Rattle.checker.proofs.Accepts.{written-accepted}
-use Rattle.tables.specs.Sizes.{mostEntities, width, slipBytes}
+use Rattle.words.specs.Sizes.{mostEntities, width, slipBytes}
 use Rattle.search.specs.Promise.{Lent, lentRow, searchRows, AnsweredWith, Promise}
 use Rattle.search.specs.Written.{Written}
 use Rattle.search.proofs.Judging.{search-places, search-numbers}

@@ -10,7 +10,7 @@ use lib.Seq.{getD-set-same, getD-set-other, set-getD}
 use lib.Bits.{bitOr}
 use Rattle.rt0.specs.Book.{Book}
 use Rattle.rt0.proofs.Bits.{bit-or}
-use Rattle.tables.specs.Sizes.{mostEntities}
+use Rattle.words.specs.Sizes.{mostEntities}
 use Rattle.search.specs.Fact.{HasLine, Backed}
 use Rattle.search.specs.Ledger.{Extended}
 use Rattle.search.specs.Writing.{AllStated}

@@ -16,10 +16,10 @@ use Rattle.bundle.specs.declared.question.Question.{Question}
 use Rattle.bundle.specs.Held.{holdingIn}
 use Rattle.bundle.specs.Question.{roleAsked, Asked}
 use Rattle.answers.specs.Answer.{Outcome, answered}
-use Rattle.tables.specs.Sizes.{mostEntities, width}
-use Rattle.tables.specs.Give.{wordOf}
+use Rattle.words.specs.Sizes.{mostEntities, width}
+use Rattle.words.specs.Give.{wordOf}
 use Rattle.tables.specs.Promise.{tables, FilledWith}
-use Rattle.tables.proofs.Given.{word-valid}
+use Rattle.words.proofs.Given.{word-valid}
 use Rattle.tables.proofs.Held.{question-within}
 use Rattle.search.specs.Promise.{lent, AnsweredWith}
 use Rattle.search.specs.Concluded.{TablesShow, Concluded}

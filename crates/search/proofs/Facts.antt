@@ -6,8 +6,8 @@ use mathlib.Core.List.{List}
 use Rattle.rt0.specs.Credential.{Role, _·_, ValidRole, IsEntity}
 use Rattle.rt0.specs.Slip.{_∋_}
 use Rattle.rt0.specs.Word.{bit, place, wordAt}
-use Rattle.tables.specs.Sizes.{mostEntities, width, factCount}
-use Rattle.tables.proofs.Given.{place-valid}
+use Rattle.words.specs.Sizes.{mostEntities, width, factCount}
+use Rattle.words.proofs.Given.{place-valid}
 use Rattle.search.specs.Fact.{factNumber, fact, HasFact}
 
 -- the number of a fact of a valid role

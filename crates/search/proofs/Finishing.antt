@@ -28,10 +28,12 @@ use Rattle.bundle.specs.Rows.{Accepts}
 use Rattle.bundle.specs.Held.{held, bookIn, holdingIn}
 use Rattle.bundle.specs.Question.{roleAsked, Asked}
 use Rattle.bundle.proofs.Accepted.{Contents, accepted-contents, holding-sound}
-use Rattle.tables.specs.Sizes.{mostEntities, width, tableWords, factCount, slipLines, slipBytes}
+use Rattle.words.specs.Sizes.{mostEntities, width, tableWords, factCount, slipLines, slipBytes}
 use Rattle.search.specs.Fact.{factNumber, HasLine, HasFact, Backed}
 use Rattle.search.specs.Ledger.{Extended}
-use Rattle.search.specs.Writing.{sizesWith, Writing, NoneOrLast, Unsaid, Finished}
+use Rattle.words.specs.Step.{Steps}
+use Rattle.tables.proofs.Rounds.{all-stepped, steps-there}
+use Rattle.search.specs.Writing.{sizesWith, Writing, HasSteps, NoneOrLast, Unsaid, Finished}
 use Rattle.search.specs.Written.{Written}
 use Rattle.search.proofs.Facts.{number-within, number-fact, number-holds}
 use Rattle.search.proofs.Ledgers.{ledger-nil, ledger-once}
@@ -116,11 +118,14 @@ module _ (bytes : List ℕ) (s : Sizes) (q : Question) (asked : Asked bytes s q)
   -- all that the rounds ask, from nobody and an index of zeros
   pub ready : (slip : List ℕ) (goal rounds : ℕ) → goal ≡ factNumber (roleAsked q) (q .person) → slipBytes ≤ length slip
       → Rounds (held bytes) rounds → Member (held bytes) (roleAsked q) (q .person)
+      → {before steps : List ℕ} → Steps bytes before steps → length before ≡ 240
       → Writing bytes (s .entities) (noneWords tableWords) (noneWords factCount) slip 0 × (s .records ≡ recordsOf bytes)
+      × HasSteps bytes steps
       × Unsaid (noneWords factCount) goal × HasFact (timesWords (s .entities) width (held bytes) rounds (noneWords tableWords)) goal
-  ready slip goal rounds g room least m = (
+  ready slip goal rounds g room least m w lent = (
     writing-none bytes (s .entities) slip said-so room,
     contents .records,
+    record { enough = rw (contents .records) at (steps-there bytes accepts w lent); stepped = rw (contents .records) at (all-stepped bytes accepts w lent) },
     record { inside = rw g (number-within (roleAsked q) (q .person) (within .0) (within .1)); none = none-at factCount goal },
     rw g (number-holds (timesWords (s .entities) width (held bytes) rounds (noneWords tableWords)) (roleAsked q) (q .person) (within .0) (within .1)
         (reached rounds least m)),

@@ -25,7 +25,7 @@ use Rattle.bundle.proofs.Determined.{reads-refused}
 use Rattle.bundle.proofs.Questions.{question-tells, asked-right}
 use Rattle.answers.specs.Answer.{Outcome, refusal}
 use Rattle.tables.specs.declared.Filled.the-variants as filled
-use Rattle.tables.specs.Sizes.{tableWords, slipBytes}
+use Rattle.words.specs.Sizes.{tableWords, slipBytes}
 use Rattle.tables.specs.Promise.{Tables, tables, tablesWrong, TablesPromise}
 use Rattle.tables.proofs.Told.{refused-told}
 use Rattle.search.specs.Promise.{Lent, lent, LentShort, lentWrong, lentRow, searchRows, AnsweredWith, Promise}

@@ -16,10 +16,10 @@ use Rattle.rt0.proofs.Items.{item-last}
 use Rattle.rt0.proofs.Says.{says-within, says-longer, says-cases}
 use Rattle.rt0.proofs.Least.{member-within}
 use Rattle.rt0.proofs.Slips.{line-sound, right-snoc}
-use Rattle.tables.specs.Sizes.{mostEntities, width, factCount}
+use Rattle.words.specs.Sizes.{mostEntities, width, factCount}
 use Rattle.search.specs.Fact.{fact, factNumber, lineOf, HasLine, Backed}
 use Rattle.search.specs.Ledger.{Ledger}
-use Rattle.tables.proofs.Wider.{role-wider}
+use Rattle.words.proofs.Wider.{role-wider}
 use Rattle.search.proofs.Facts.{number-within, number-fact, number-holds, fact-injective}
 
 -- no lines, and an index of zeros

@@ -20,10 +20,10 @@ use Rattle.records.specs.declared.form.Role.{Role}
 use Rattle.records.specs.declared.form.Record.{Record}
 use Rattle.records.specs.declared.form.Record.the-variants as variant
 use Rattle.base.proofs.Lowest.{Missed}
-use Rattle.tables.specs.Sizes.{mostEntities, width}
-use Rattle.tables.specs.Give.{wordOf, linkOf, giveOf}
-use Rattle.tables.proofs.Wider.{role-wider}
-use Rattle.tables.proofs.Given.{word-valid}
+use Rattle.words.specs.Sizes.{mostEntities, width}
+use Rattle.words.specs.Give.{wordOf, linkOf, giveOf}
+use Rattle.words.proofs.Wider.{role-wider}
+use Rattle.words.proofs.Given.{word-valid}
 use Rattle.search.specs.Fact.{lineOf, Backed}
 use Rattle.search.specs.Ledger.{Ledger}
 use Rattle.search.specs.Premise.{isBetween, Between, LinesInTurn, PremisesFor}

@@ -9,6 +9,7 @@ use mathlib.Core.Logic.{by-cases}
 use mathlib.Core.Option.{some}
 use mathlib.Core.List.{List, [], _∷_, _++_}
 use lib.ListN.{length, getD, set, length-append}
+use lib.Bits.{bitOr}
 use lib.Seq.{getD-set-same, getD-set-other}
 use Rattle.rt0.specs.Credential.{Credential, head, AllValid, Valid, ValidRole, IsEntity}
 use Rattle.rt0.specs.Book.{Book, Numbers}
@@ -25,17 +26,19 @@ use Rattle.bundle.specs.Layout.{recordsOf}
 use Rattle.bundle.specs.Access.{recordOf}
 use Rattle.bundle.specs.Held.{held, bookIn}
 use Rattle.bundle.proofs.Accepted.{holding-sound}
-use Rattle.tables.specs.Sizes.{mostEntities, width, tableWords, factCount, slipLines}
-use Rattle.tables.specs.Give.{headPlace}
-use Rattle.tables.proofs.Wider.{role-wider, valid-wider}
-use Rattle.tables.proofs.Given.{place-valid, head-valid as place-of-head, give-valid}
+use Rattle.words.specs.Sizes.{mostEntities, width, tableWords, factCount, slipLines}
+use Rattle.words.specs.Give.{giveOf, headPlace, useRecord}
+use Rattle.words.specs.Step.{headIn, stepOf, stepGives}
+use Rattle.words.proofs.Stepped.{step-place, step-gives}
+use Rattle.words.proofs.Wider.{role-wider, valid-wider}
+use Rattle.words.proofs.Given.{place-valid, head-valid as place-of-head, give-valid}
 use Rattle.tables.proofs.Held.{HeldRecord, held-entities, held-valid, held-record, held-place}
 use Rattle.search.specs.declared.line.Premises.{Premises}
 use Rattle.search.specs.declared.slip.Given.{Given}
 use Rattle.search.specs.Fact.{factNumber, HasLine, Backed}
 use Rattle.search.specs.Ledger.{WroteLine, Ledger, Extended}
 use Rattle.search.specs.Premise.{PremisesFor, PremisesOf}
-use Rattle.search.specs.Writing.{Writing, IsRecord, IsGiven, OneMore}
+use Rattle.search.specs.Writing.{Writing, IsRecord, HasSteps, IsGiven, OneMore}
 use Rattle.search.proofs.Facts.{number-within, number-fact}
 use Rattle.search.proofs.Ledgers.{ledger-snoc, ledger-once}
 use Rattle.search.proofs.Premises.{premises-follow}
@@ -120,10 +123,25 @@ module _ {cs : List Credential} {book : Book} {E : ℕ} {ws index slip : List �
         keeps = λ g. entry-kept index number (n + 1) g (omega (arith, inside, x .ledger .size)) (λ z. omega arith);
       }
 
--- the word of a record's head is in the tables
-pub place-there : {bytes ws index slip : List ℕ} {E n k at : ℕ} {r : Record} → Writing bytes E ws index slip n → IsRecord bytes k
-    → r ≡ recordOf bytes k → at ≡ headPlace r → at < tableWords
-place-there {bytes} {k = k} w i a e = rw (e, a) (held-place bytes (w .accepts) k (i .above) (i .within))
+-- what one use of a record's step gives is what the record gives, and goes to the word of its head, which is in the tables
+module _ {bytes ws index slip : List ℕ} {E n k : ℕ} (w : Writing bytes E ws index slip n) (i : IsRecord bytes k) (steps : List ℕ) (t : HasSteps bytes steps) where
+  step-there : getD steps (k - 1) 0 ≡ stepOf (recordOf bytes k)
+  step-there =
+      let same : suc (k - 1) ≡ k = omega (arith, i .above) in
+      t .stepped (k - 1) (omega (arith, i .above, i .within)) ∙ ap (λ m. stepOf (recordOf bytes m)) same
+
+  pub gained-place : {at : ℕ} → at ≡ headIn (getD steps (k - 1) 0) → at ≡ headPlace (recordOf bytes k)
+  gained-place e = rw (e, step-there) (step-place (recordOf bytes k))
+
+  pub gained-word : {word : ℕ} → word ≡ stepGives E ws (getD steps (k - 1) 0) → word ≡ giveOf E ws (recordOf bytes k)
+  gained-word e = rw (e, step-there) (step-gives E ws (omega (arith, w .words)) (recordOf bytes k))
+
+  pub gained-use : (acc : List ℕ) {at word : ℕ} → at ≡ headIn (getD steps (k - 1) 0) → word ≡ stepGives E ws (getD steps (k - 1) 0)
+      → set acc at (bitOr (getD acc at 0) word) ≡ useRecord E ws acc (recordOf bytes k)
+  gained-use acc e v = rw (gained-place e, gained-word v)
+
+  pub place-there : {at : ℕ} → at ≡ headIn (getD steps (k - 1) 0) → at < tableWords
+  place-there e = rw (gained-place e) (held-place bytes (w .accepts) k (i .above) (i .within))
 
 -- what a record of an accepted bundle gives
 module _ {bytes ws index slip : List ℕ} {n : ℕ} {g : Given} (w : Writing bytes (g .entities) ws index slip n) (i : IsGiven bytes ws g) where

@@ -12,7 +12,7 @@ use Rattle.rt0.specs.Book.{Book}
 use Rattle.rt0.specs.Bytes.{linesOf}
 use Rattle.rt0.specs.Word.{bit}
 use Rattle.rt0.proofs.Bits.{bit-cases}
-use Rattle.tables.specs.Sizes.{tableWords}
+use Rattle.words.specs.Sizes.{tableWords}
 use Rattle.search.specs.Fact.{HasLine, Backed}
 use Rattle.search.specs.Ledger.{Ledger, Extended}
 use Rattle.bundle.specs.Held.{bookIn}

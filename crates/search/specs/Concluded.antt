@@ -14,7 +14,7 @@ use Rattle.bundle.specs.Question.{roleAsked}
 use Rattle.base.specs.Refusals.{Due, Clear}
 use Rattle.bundle.specs.Rows.{readerRows}
 use Rattle.answers.specs.Answer.{Outcome, refusal, answered}
-use Rattle.tables.specs.Sizes.{mostEntities, width}
+use Rattle.words.specs.Sizes.{mostEntities, width}
 use Rattle.search.specs.Promise.{SlipLeft}
 
 -- the tables of a holding, with its number of rounds

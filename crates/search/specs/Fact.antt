@@ -7,8 +7,8 @@ use lib.ListN.{getD}
 use Rattle.rt0.specs.Credential.{Role, _·_, entityOf, nameOf}
 use Rattle.rt0.specs.Slip.{Fact, _∋_}
 use Rattle.rt0.specs.Word.{bit}
-use Rattle.tables.specs.Sizes.{mostEntities, width, factCount}
-use Rattle.tables.specs.Give.{placeOf}
+use Rattle.words.specs.Sizes.{mostEntities, width, factCount}
+use Rattle.words.specs.Give.{placeOf}
 
 -- the number of a fact
 abbrev pub factNumber : Role → ℕ → ℕ

@@ -6,7 +6,7 @@ use lib.ListN.{length, getD, drop}
 use Rattle.rt0.specs.Book.{Book}
 use Rattle.rt0.specs.Slip.{Line, Says, RightSlip}
 use Rattle.rt0.specs.Bytes.{linesOf}
-use Rattle.tables.specs.Sizes.{factCount}
+use Rattle.words.specs.Sizes.{factCount}
 use Rattle.search.specs.Fact.{fact, HasLine}
 
 -- one more line behind n lines: the lines before it and the bytes behind it stay

@@ -8,7 +8,7 @@ use lib.Dec.{eqb}
 use Rattle.rt0.specs.Credential.{Role, _·_, entity, role, link, intersection, Credential, _⟵_, IsEntity}
 use Rattle.rt0.specs.Word.{bit}
 use Rattle.rt0.specs.Slip.{AllNone}
-use Rattle.tables.specs.Give.{wordOf}
+use Rattle.words.specs.Give.{wordOf}
 use Rattle.search.specs.declared.line.Premises.{Premises}
 use Rattle.search.specs.Fact.{lineOf}
 

@@ -19,7 +19,7 @@ use Rattle.bundle.specs.Rows.{readerRows}
 use Rattle.bundle.specs.Held.{holdingIn}
 use Rattle.bundle.specs.Question.{roleAsked, questionRow}
 use Rattle.answers.specs.Answer.{Outcome, refusal, answered}
-use Rattle.tables.specs.Sizes.{mostEntities, tableWords, slipBytes}
+use Rattle.words.specs.Sizes.{mostEntities, tableWords, slipBytes}
 use Rattle.tables.specs.Promise.{TableLeft}
 use Rattle.search.specs.Written.{Written}
 

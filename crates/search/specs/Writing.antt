@@ -13,8 +13,9 @@ use Rattle.bundle.specs.Layout.{namesOf, recordsOf}
 use Rattle.bundle.specs.Rows.{Accepts}
 use Rattle.bundle.specs.Held.{bookIn}
 use Rattle.bundle.specs.Access.{recordOf}
-use Rattle.tables.specs.Sizes.{mostEntities, tableWords, factCount, slipBytes}
-use Rattle.tables.specs.Give.{giveOf, headPlace}
+use Rattle.words.specs.Sizes.{mostEntities, tableWords, factCount, slipBytes}
+use Rattle.words.specs.Give.{giveOf, headPlace}
+use Rattle.words.specs.Step.{Stepped}
 use Rattle.search.specs.declared.slip.Given.{Given}
 use Rattle.search.specs.Fact.{HasLine, Backed}
 use Rattle.search.specs.Ledger.{Ledger, Extended}
@@ -35,6 +36,11 @@ pub record Writing (bytes : List ℕ) (E : ℕ) (ws index slip : List ℕ) (n : 
 pub record IsRecord (bytes : List ℕ) (k : ℕ) : Type 0 where
   pub above : 1 ≤ k
   pub within : k ≤ recordsOf bytes
+
+-- the steps are those of the records of the bundle
+pub record HasSteps (bytes steps : List ℕ) : Type 0 where
+  pub enough : recordsOf bytes ≤ length steps
+  pub stepped : Stepped bytes (recordsOf bytes) steps
 
 -- the number of the first fact of the head of record k
 abbrev pub headFact : List ℕ → ℕ → ℕ

@@ -10,8 +10,8 @@ ghost use Rattle.bundle.specs.Layout.{entitiesOf, namesOf};
 ghost use Rattle.bundle.specs.Held.{holdingIn};
 ghost use Rattle.bundle.specs.Question.{questionWrong, Asked};
 ghost use Rattle.answers.specs.Answer.{outcomeOf};
-ghost use Rattle.tables.specs.Sizes.{mostEntities, slipBytes};
-ghost use Rattle.tables.specs.Give.{wordOf};
+ghost use Rattle.words.specs.Sizes.{mostEntities, slipBytes};
+ghost use Rattle.words.specs.Give.{wordOf};
 ghost use Rattle.search.specs.Promise.{lentWrong, lent, Promise};
 ghost use Rattle.search.specs.Concluded.{TablesShow, Concluded};
 use crate::slip::write_slip;
@@ -20,7 +20,7 @@ use bundle::question::Question;
 use bundle::read::Sizes;
 use tables::Filled;
 use tables::fill;
-use tables::table::word;
+use words::table::word;
 
 // Whether the person is in the role by a table.
 fn holds(words: &[u32], question: Question) -> bool

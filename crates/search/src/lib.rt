@@ -11,7 +11,7 @@ use bundle::question::question_wrong;
 use bundle::read::Reading;
 use bundle::read::read;
 use bundle::read::sizes_of;
-use tables::table::Table;
+use words::table::Table;
 
 pub mod answer;
 pub mod line;

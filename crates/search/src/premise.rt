@@ -4,16 +4,16 @@ ghost use Prim.Native.Nat.{_-_, _<_, _≤_};
 ghost use Rattle.rt0.specs.Credential.{_·_, IsEntity};
 ghost use Rattle.rt0.specs.Word.{bit};
 ghost use Rattle.records.specs.Form.{roleOf, credentialOf};
-ghost use Rattle.tables.specs.Sizes.{mostEntities};
-ghost use Rattle.tables.specs.Give.{wordOf, linkOf, giveOf};
+ghost use Rattle.words.specs.Sizes.{mostEntities};
+ghost use Rattle.words.specs.Give.{wordOf, linkOf, giveOf};
 ghost use Rattle.search.specs.Fact.{factNumber, lineOf};
 ghost use Rattle.search.specs.Premise.{isBetween, Between, LinkPremises, PremisesOf};
 use crate::line::Premises;
 use records::form::Record;
 use records::form::Role;
-use tables::table::Table;
-use tables::table::place;
-use tables::table::word;
+use words::table::Table;
+use words::table::place;
+use words::table::word;
 
 // The number of a fact: the member's bit, counted through all words.
 pub(crate) fn fact_number(entity: usize, name: usize, member: usize) -> usize

@@ -10,10 +10,10 @@ ghost use Rattle.bundle.specs.Layout.{recordsOf};
 ghost use Rattle.bundle.specs.Access.{recordOf};
 ghost use Rattle.bundle.specs.Held.{held, bookIn};
 ghost use Rattle.bundle.specs.Question.{roleAsked, Asked};
-ghost use Rattle.tables.specs.Sizes.{mostEntities, width, tableWords, slipBytes};
-ghost use Rattle.tables.specs.Give.{useRecord};
+ghost use Rattle.words.specs.Sizes.{mostEntities, width, tableWords, slipBytes};
+ghost use Rattle.words.specs.Give.{useRecord};
 ghost use Rattle.search.specs.Fact.{HasFact, Backed};
-ghost use Rattle.search.specs.Writing.{Writing, IsRecord, IsGiven, OneMore, AtMostOneMore};
+ghost use Rattle.search.specs.Writing.{Writing, IsRecord, HasSteps, IsGiven, OneMore, AtMostOneMore};
 ghost use Rattle.search.specs.Writing.{Unsaid, Progress, AllStated, Finished};
 ghost use Rattle.search.specs.Written.{Written};
 use crate::line::write_line;
@@ -22,10 +22,11 @@ use crate::premise::premises_of;
 use bundle::access::record_at;
 use bundle::question::Question;
 use bundle::read::Sizes;
-use tables::give::give;
-use tables::give::head_place;
-use tables::table::Table;
-use tables::table::copy;
+use words::give::gain;
+use words::step::Step;
+use words::step::write_steps;
+use words::table::Table;
+use words::table::copy;
 
 // The sizes of the longest slip: its lines, and its bytes, 8 for each line.
 pub struct Slip;
@@ -128,6 +129,7 @@ fn state_members(
 // A record's use: what it gives from the words goes into the words said, and each new fact gets a line.
 fn use_record(
     bundle: &[u8],
+    steps: &[usize],
     entities: usize,
     words: &[u32],
     turn: Turn,
@@ -136,16 +138,16 @@ fn use_record(
     slip: &mut [u8],
 ) -> usize
     requires { ⌜ Writing (now bundle) entities (now words) (now index) (now slip) (turn .lines)
-        × IsRecord (now bundle) (turn .number) × (length (now said) ≡ tableWords)
+        × IsRecord (now bundle) (turn .number) × HasSteps (now bundle) (now steps) × (length (now said) ≡ tableWords)
         × Backed (now said) (now index) × Unsaid (now index) (turn .goal) ⌝ }
     ensures { λ r. ⌜ (now (said .exit) ≡ useRecord entities (now (words .entry)) (now (said .entry))
         (recordOf (now (bundle .entry)) (turn .number)))
         × Progress (bookIn (now (bundle .entry))) (now (index .entry)) (now (slip .entry)) (turn .lines) (turn .goal)
         (now (index .exit)) (now (slip .exit)) r (Backed (now (said .exit)) (now (index .exit))) ⌝ }
 {
-    let record = record_at(bundle, turn.number);
-    let at = head_place(record);
-    let word = give(words, record, entities);
+    let gained = gain(steps[turn.number - 1], words, entities);
+    let at = gained.place;
+    let word = gained.word;
     let before = said[at];
     let after = before | word;
     said[at] = after;
@@ -164,6 +166,7 @@ fn use_record(
 // One round: each record's use on the words said at its start.
 fn one_round(
     bundle: &[u8],
+    steps: &[usize],
     sizes: Sizes,
     goal: usize,
     said: &mut [u32],
@@ -172,7 +175,7 @@ fn one_round(
     lines: usize,
 ) -> usize
     requires { ⌜ Writing (now bundle) (sizes .entities) (now said) (now index) (now slip) lines
-        × (sizes .records ≡ recordsOf (now bundle)) × Unsaid (now index) goal ⌝ }
+        × (sizes .records ≡ recordsOf (now bundle)) × HasSteps (now bundle) (now steps) × Unsaid (now index) goal ⌝ }
     ensures { λ r. ⌜ Progress (bookIn (now (bundle .entry))) (now (index .entry)) (now (slip .entry)) lines goal
         (now (index .exit)) (now (slip .exit)) r
         ((now (said .exit) ≡ roundWords (sizes .entities) width (held (now (bundle .entry))) (now (said .entry)))
@@ -189,7 +192,16 @@ fn one_round(
             goal,
             lines: count,
         };
-        count = use_record(bundle, sizes.entities, &words, turn, said, index, slip);
+        count = use_record(
+            bundle,
+            steps,
+            sizes.entities,
+            &words,
+            turn,
+            said,
+            index,
+            slip,
+        );
         if index[goal] != 0 {
             return count;
         }
@@ -200,6 +212,7 @@ fn one_round(
 // Round after round until the fact in question has a line, which is then the last.
 fn write_rounds(
     bundle: &[u8],
+    steps: &[usize],
     sizes: Sizes,
     rounds: usize,
     goal: usize,
@@ -208,14 +221,14 @@ fn write_rounds(
     slip: &mut [u8],
 ) -> usize
     requires { ⌜ Writing (now bundle) (sizes .entities) (now said) (now index) (now slip) 0
-        × (sizes .records ≡ recordsOf (now bundle)) × Unsaid (now index) goal
+        × (sizes .records ≡ recordsOf (now bundle)) × HasSteps (now bundle) (now steps) × Unsaid (now index) goal
         × HasFact (timesWords (sizes .entities) width (held (now bundle)) rounds (now said)) goal ⌝ }
     ensures { λ r. ⌜ Finished (bookIn (now (bundle .entry))) (now (slip .entry)) goal (now (index .exit)) (now (slip .exit)) r ⌝ }
 {
     let mut count: usize = 0;
     let mut round: usize = 0;
     while round < rounds {
-        count = one_round(bundle, sizes, goal, said, index, slip, count);
+        count = one_round(bundle, steps, sizes, goal, said, index, slip, count);
         if index[goal] != 0 {
             return count;
         }
@@ -240,5 +253,16 @@ pub(crate) fn write_slip(
     let mut said = [0u32; Table::WORDS];
     let mut index = [0u16; Table::FACTS];
     let goal = fact_number(question.entity, question.name, question.person);
-    write_rounds(bundle, sizes, rounds, goal, &mut said, &mut index, slip)
+    let mut steps = [0usize; Step::MOST];
+    write_steps(bundle, &mut steps);
+    write_rounds(
+        bundle,
+        &steps,
+        sizes,
+        rounds,
+        goal,
+        &mut said,
+        &mut index,
+        slip,
+    )
 }

@@ -16,7 +16,7 @@ use Rattle.rt0.proofs.Bits.{bits-same}
 use Rattle.rt0.proofs.Shown.{place-of}
 use Rattle.rt0.proofs.Tables.{rounds-unique}
 use Rattle.tables.specs.declared.Filled.{Filled}
-use Rattle.tables.specs.Sizes.{mostEntities, width, tableWords}
+use Rattle.words.specs.Sizes.{mostEntities, width, tableWords}
 use Rattle.base.specs.Refusals.{refused, passed}
 use Rattle.base.proofs.Refusals.{due-clear, due-number, due-unique, clear-first}
 use Rattle.bundle.specs.Layout.{sizesIn}

@@ -17,10 +17,10 @@ use Rattle.bundle.specs.Rows.{Accepts}
 use Rattle.bundle.specs.Access.{recordOf}
 use Rattle.records.specs.Form.{credentialOf}
 use Rattle.bundle.proofs.Accepted.{Contents, accepted-contents, length-credentials, record-credential, record-there}
-use Rattle.tables.specs.Sizes.{mostEntities, width, tableWords}
-use Rattle.tables.specs.Give.{headPlace}
-use Rattle.tables.proofs.Wider.{role-wider, valid-wider}
-use Rattle.tables.proofs.Given.{place-small, head-valid}
+use Rattle.words.specs.Sizes.{mostEntities, width, tableWords}
+use Rattle.words.specs.Give.{headPlace}
+use Rattle.words.proofs.Wider.{role-wider, valid-wider}
+use Rattle.words.proofs.Given.{place-small, head-valid}
 
 -- the credential that record k of a bundle is
 pub record HeldRecord (bytes : List ℕ) (E k : ℕ) : Type 0 where

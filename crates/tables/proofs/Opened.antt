@@ -1,19 +1,22 @@
 -- The value that says which roles are open. With nothing open the rounds start from nobody. The value that the code computes from a
 -- bundle's marks agrees with the paper's test, an absent shelf, on every role within E and R: so both start the same table.
-use Prim.Native.Nat.{ℕ, zero, suc, _-_, _/_, _%_, _^_, _<_}
+use Prim.Native.Nat.{ℕ, zero, suc, _+_, _*_, _-_, _/_, _%_, _^_, _<_}
+use native.Mathlib.Numerals.{add-one}
 use native.Mathlib.Omega.{arith}
 use native.Mathlib.Decide.{ℕ-discrete}
-use mathlib.Core.Path.{_≡_, refl, sym}
+use mathlib.Core.Path.{_≡_, refl, sym, _∙_}
 use mathlib.Core.Bool.{Bool, true, false, _&&_, _||_, true≢false}
 use mathlib.Core.Logic.{_↔_, inl, inr, ⊎-elim, by-cases}
 use mathlib.Core.List.{List, []}
 use lib.Dec.{eqb, leb}
+use lib.Bits.{bitOr, or-zero-r}
 use borrow.Author.Tests.{leb-true, eq-eqb, ne-eqb}
 use Rattle.rt0.specs.Credential.{_·_, IsEntity, IsName}
 use Rattle.rt0.specs.Completion.{isAbsent, Open, openBy}
 use Rattle.rt0.specs.Word.{bit, pickWord, noneWords, openWithin, openWords}
 use Rattle.rt0.proofs.Bits.{bit-zero, bit-or, bit-power}
 use Rattle.bundle.specs.Held.{shelves}
+use Rattle.words.proofs.Gained.{shifted-one}
 use Rattle.tables.specs.Open.{openIn, nothingOpen, absentWord, absentRoles}
 use Rattle.tables.proofs.Starts.{none-grows}
 
@@ -92,3 +95,19 @@ module _ (bytes : List ℕ) where
   -- the table that the rounds start from, by the paper's test
   pub absent-start : (E R W n : ℕ) → openWords E R W (openIn (absentRoles bytes E)) n ≡ openWords E R W (openBy (shelves bytes)) n
   absent-start E R W n = open-same E R W (openIn (absentRoles bytes E)) (openBy (shelves bytes)) (λ A r a _. absent-open E A r a) n
+
+-- ---- as the code works the word out
+
+-- one entity more of those that may be absent
+module _ (bytes : List ℕ) (n word : ℕ) (e : word ≡ absentWord bytes n) (absent : Bool) (q : absent ≡ isAbsent (shelves bytes (n + 1))) where
+  pub absent-more : n < 32 → absent ≡ true → bitOr word (1 * 2 ^ n % 2 ^ 32) ≡ absentWord bytes (n + 1)
+  unfolding absentWord
+  absent-more l t =
+      let is : isAbsent (shelves bytes (n + 1)) ≡ true = sym q ∙ t in
+      rw (shifted-one 32 n l, add-one, rw add-one at is, e)
+
+  pub absent-other : absent ≡ false → word ≡ absentWord bytes (n + 1)
+  unfolding absentWord
+  absent-other t =
+      let is : isAbsent (shelves bytes (n + 1)) ≡ false = sym q ∙ t in
+      rw (add-one, rw add-one at is, or-zero-r, e)

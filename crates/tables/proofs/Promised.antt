@@ -1,15 +1,15 @@
 -- From the tables at rest to the promise: what they show, how many rounds there were, what is left of the lent words, and the order of
 -- the refusals.
-use Prim.Native.Nat.{ℕ, _-_, _+_, _*_, _^_, _<_, _≤_}
+use Prim.Native.Nat.{ℕ, _-_, _+_, _*_, _^_, _<_, _≤_, min}
 use native.Mathlib.Omega.{arith}
 use mathlib.Core.Path.{_≡_, refl, sym, ap, _∙_, subst}
-use mathlib.Core.Bool.{Bool, true, false}
+use mathlib.Core.Bool.{Bool, true, false, _&&_, true≢false}
 use mathlib.Core.Logic.{Iff·symm, inl}
 use mathlib.Core.List.{List, [], _∷_, _++_}
 use lib.ListN.{take, drop, length, getD, length-take, length-drop}
-use lib.Dec.{ltb}
-use borrow.Author.Tests.{ltb-false}
-use lib.Seq.{take-at, drop-at, getD-take}
+use lib.Dec.{eqb, ltb}
+use borrow.Author.Tests.{ltb-false, eqb-true}
+use lib.Seq.{take-all, take-at, drop-at, getD-take}
 use Rattle.rt0.specs.Credential.{_·_, Credential, IsEntity, IsName}
 use Rattle.rt0.specs.Membership.{Assignment, Member}
 use Rattle.rt0.specs.Table.{distinctHeads}
@@ -33,7 +33,9 @@ use Rattle.bundle.proofs.Accepted.{Contents, accepted-contents}
 use Rattle.bundle.specs.declared.read.Sizes.{Sizes}
 use Rattle.tables.specs.declared.Filled.{Filled}
 use Rattle.tables.specs.declared.Filled.the-variants.{Rounds, Refused}
-use Rattle.tables.specs.Sizes.{mostEntities, width, tableWords}
+use Rattle.words.specs.Sizes.{mostEntities, width, tableWords}
+use Rattle.words.specs.Give.{copiedOver}
+use Rattle.tables.specs.declared.start.OpenRoles.{OpenRoles}
 use Rattle.tables.specs.Rest.{AtRest, RestsIn}
 use Rattle.tables.specs.Open.{nothingOpen, absentRoles, startWords}
 use Rattle.tables.specs.Promise.{Tables, tables, TableLeft, FilledWith, TablesShort, tablesWrong, shortRow, tableRows, TablesPromise}
@@ -52,6 +54,24 @@ rests-in E cs start before n ws s small =
       rest = drop-at ws (drop tableWords before) tableWords size;
       small = small;
     }
+
+-- a table at rest, copied over the first tableWords words of another
+pub rests-copied : (E : ℕ) (cs : List Credential) (start before ws : List ℕ) (n : ℕ) {after : List ℕ} → AtRest E cs start n ws
+    → tableWords ≤ length before → after ≡ copiedOver ws before → ((i : ℕ) → getD after i 0 < 2 ^ 32) → RestsIn E cs start before n after
+unfolding copiedOver
+rests-copied E cs start before ws n {after} s enough e small =
+    let size : length ws ≡ tableWords = s .fits .size in
+    let both : min (length ws) (length before) ≡ tableWords = omega arith in
+    let whole : after ≡ ws ++ drop tableWords before = rw (e, both, take-all tableWords ws (omega arith)) in
+    subst (RestsIn E cs start before n) (sym whole) (rests-in E cs start before n ws s (subst (λ (l : List ℕ). (i : ℕ) → getD l i 0 < 2 ^ 32) whole small))
+
+and-both : (a b : Bool) → (a && b) ≡ true → (a ≡ true) × (b ≡ true)
+and-both true b e = (refl, e)
+and-both false b e = absurd (true≢false (sym e))
+
+-- where the words say so no role is open
+pub none-open : (s : Sizes) (o : OpenRoles) → (eqb (o .entities) 0 && eqb (o .names) 0) ≡ true → startWords s nothingOpen ≡ startWords s o
+none-open s o e = let (entities, names) = and-both (eqb (o .entities) 0) (eqb (o .names) 0) e in rw (eqb-true (o .entities) 0 entities, eqb-true (o .names) 0 names)
 
 -- tables that are not too short are long enough
 pub tables-enough : (sure possible : List ℕ) → tablesWrong (tables sure possible) ≡ false

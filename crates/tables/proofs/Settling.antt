@@ -18,9 +18,11 @@ use Rattle.bundle.specs.declared.read.Sizes.{Sizes}
 use Rattle.bundle.specs.Rows.{Accepts}
 use Rattle.bundle.specs.Held.{held}
 use Rattle.bundle.proofs.Accepted.{Contents, accepted-contents, holding-sound}
-use Rattle.tables.specs.Sizes.{mostEntities, width, mostRounds}
+use Rattle.words.specs.Sizes.{mostEntities, width, mostRounds}
 use Rattle.tables.specs.Rest.{AtRest}
+use Rattle.words.specs.Step.{Stepped, useSteps}
 use Rattle.tables.proofs.Held.{held-names}
+use Rattle.tables.proofs.Rounds.{steps-round}
 
 -- n rounds from the words start lead to the words ws, and each of them changed something
 pub record Going (E : ℕ) (cs : List Credential) (start : List ℕ) (n : ℕ) (ws : List ℕ) : Type 0 where
@@ -49,8 +51,11 @@ module _ (bytes : List ℕ) {s : Sizes} (h : Accepts bytes s) {start : List ℕ}
         let heads : length (distinctHeads cs) ≤ 240 = omega (arith, heads-few (holding-sound bytes s h .numbered), holding-sound bytes s h .few) in
         omega (arith, mul-le-mul (contents .most-entities) heads)
 
-    -- one round more, from a copy of the words
-    module _ {from after : List ℕ} (copied : from ≡ ws) (made : after ≡ roundWords (s .entities) width cs from) where
+    -- one round more, from a copy of the words, by the steps
+    module _ (steps : List ℕ) (t : Stepped bytes (s .records) steps) {from after : List ℕ} (copied : from ≡ ws) (used : after ≡ useSteps (s .entities) steps from ws (s .records)) where
+      made : after ≡ roundWords (s .entities) width cs from
+      made = steps-round bytes h steps t from (rw copied (going-fits .size)) copied used
+
       next : after ≡ timesWords (s .entities) width cs (suc n) start
       unfolding timesWords
       next = rw (← g .reached, ← copied) made

@@ -14,9 +14,9 @@ use Rattle.rt0.proofs.Shown.{open-fits}
 use Rattle.bundle.specs.declared.read.Sizes.{Sizes}
 use Rattle.bundle.specs.Rows.{Accepts}
 use Rattle.tables.specs.declared.start.OpenRoles.{OpenRoles}
-use Rattle.tables.specs.Sizes.{mostEntities, width, tableWords}
+use Rattle.words.specs.Sizes.{mostEntities, width, tableWords}
 use Rattle.tables.specs.Open.{openIn}
-use Rattle.tables.proofs.Filling.{filled-more}
+use Rattle.words.proofs.Filling.{filled-more}
 use Rattle.tables.proofs.Held.{held-entities, held-names}
 
 -- nobody, in one word more

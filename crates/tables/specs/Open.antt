@@ -10,7 +10,7 @@ use Rattle.rt0.specs.Word.{bit, pickWord, openWords}
 use Rattle.bundle.specs.Held.{shelves}
 use Rattle.tables.specs.declared.start.OpenRoles.{OpenRoles}
 use Rattle.bundle.specs.declared.read.Sizes.{Sizes}
-use Rattle.tables.specs.Sizes.{width, tableWords}
+use Rattle.words.specs.Sizes.{width, tableWords}
 
 -- role A.r is open where bit A − 1 of the word of entities is 1, or bit r − 1 of the word of names
 abbrev pub openIn : OpenRoles → Open

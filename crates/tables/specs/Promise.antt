@@ -20,7 +20,7 @@ use Rattle.bundle.specs.Rows.{readerRows, noSizes}
 use Rattle.bundle.specs.Held.{holdingIn}
 use Rattle.tables.specs.declared.Filled.{Filled}
 use Rattle.tables.specs.declared.Filled.the-variants.{Rounds, Refused}
-use Rattle.tables.specs.Sizes.{mostEntities, width, tableWords}
+use Rattle.words.specs.Sizes.{mostEntities, width, tableWords}
 
 -- the two tables that are lent
 pub record Tables : Type 0 where

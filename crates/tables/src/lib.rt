@@ -1,19 +1,25 @@
 // The two tables of a bundle: who is in which role with no completion, and under at least one; with the number of rounds.
+ghost use Prim.Native.Nat.{_≤_};
+ghost use lib.ListN.{length, take};
 ghost use Rattle.bundle.specs.Rows.{Accepts};
+ghost use Rattle.bundle.specs.Held.{held};
+ghost use Rattle.words.specs.Sizes.{tableWords};
+ghost use Rattle.tables.specs.Open.{nothingOpen, startWords};
+ghost use Rattle.tables.specs.Rest.{AtRest, RestsIn};
 ghost use Rattle.tables.specs.Promise.{TablesPromise, tables};
 use crate::settle::fill_table;
 use crate::start::OpenRoles;
 use crate::start::absent;
-use crate::table::Table;
 use bundle::read::Reading;
 use bundle::read::Sizes;
 use bundle::read::read;
+use words::table::Table;
+use words::table::copy;
 
-pub mod give;
 pub mod round;
+pub mod same;
 pub mod settle;
 pub mod start;
-pub mod table;
 
 // What filling the tables of a bundle answers.
 pub enum Filled {
@@ -21,6 +27,29 @@ pub enum Filled {
     Rounds { sizes: Sizes, rounds: u16 },
     // The reader's refusal, or 8 where a table is too short.
     Refused { number: u8, place: u16 },
+}
+
+// The table with some roles open, from the one with nothing open and its rounds: where none is open the two are the same.
+fn fill_open(
+    bundle: &[u8],
+    sizes: Sizes,
+    roles: OpenRoles,
+    rounds: usize,
+    sure: &[u32],
+    possible: &mut [u32],
+) -> usize
+    requires { ⌜ Accepts (now bundle) sizes × (tableWords ≤ length (now possible)) × (tableWords ≤ length (now sure))
+        × AtRest (sizes .entities) (held (now bundle)) (startWords sizes nothingOpen) rounds (take tableWords (now sure)) ⌝ }
+    ensures { λ r. ⌜ RestsIn (sizes .entities) (held (now (bundle .entry))) (startWords sizes roles)
+        (now (possible .entry)) r (now (possible .exit)) ⌝ }
+{
+    if (roles.entities == 0) & (roles.names == 0) {
+        let first = 0;
+        let end = first + Table::WORDS;
+        copy(&sure[first..end], possible);
+        return rounds;
+    }
+    fill_table(bundle, sizes, roles, possible)
 }
 
 // The tables of an accepted bundle: the sure one with nothing open, the possible one with the roles of absent entities open.
@@ -40,7 +69,8 @@ fn fill_accepted(bundle: &[u8], sizes: Sizes, sure: &mut [u32], possible: &mut [
         names: 0,
     };
     let rounds = fill_table(bundle, sizes, nothing, sure);
-    fill_table(bundle, sizes, absent(bundle, sizes.entities), possible);
+    let open = absent(bundle, sizes.entities);
+    fill_open(bundle, sizes, open, rounds, sure, possible);
     Filled::Rounds {
         sizes,
         rounds: rounds as u16,

@@ -1,37 +1,28 @@
-// One round on a table: what one use of each record gives from the table before it, added to that table.
+// One round on a table: what one use of each step gives from the table before it, added to that table.
 ghost use mathlib.Core.Path.{_≡_};
-ghost use Prim.Native.Nat.{_<_};
-ghost use lib.ListN.{length};
-ghost use Rattle.rt0.specs.Word.{roundWords};
-ghost use Rattle.bundle.specs.Access.{recordOf};
-ghost use Rattle.tables.specs.Sizes.{width, tableWords};
-ghost use Rattle.tables.specs.Give.{headPlace, useRecord};
-ghost use Rattle.bundle.specs.Rows.{Accepts};
-ghost use Rattle.bundle.specs.Held.{held};
-use crate::give::give;
-use crate::give::head_place;
-use bundle::access::record_at;
-use bundle::read::Sizes;
+ghost use Prim.Native.Nat.{ℕ, _<_, _≤_};
+ghost use lib.ListN.{length, getD};
+ghost use Rattle.words.specs.Step.{headIn, useStep, useSteps};
+use words::give::gain;
 
-// One use of a record: what it gives from one table goes to its head's word in another.
-fn use_record(bundle: &[u8], number: usize, entities: usize, from: &[u32], to: &mut [u32])
-    requires { ⌜ headPlace (recordOf (now bundle) number) < length (now to) ⌝ }
-    ensures { λ r. ⌜ now (to .exit) ≡ useRecord entities (now (from .entry)) (now (to .entry)) (recordOf (now (bundle .entry)) number) ⌝ }
+// One use of a step: what it gives from one table goes to its head's word in another.
+fn use_step(step: usize, entities: usize, from: &[u32], to: &mut [u32])
+    requires { ⌜ headIn step < length (now to) ⌝ }
+    ensures { λ r. ⌜ now (to .exit) ≡ useStep entities (now (from .entry)) (now (to .entry)) step ⌝ }
 {
-    let record = record_at(bundle, number);
-    let gained = give(from, record, entities);
-    let at = head_place(record);
-    to[at] = to[at] | gained;
+    let gained = gain(step, from, entities);
+    let at = gained.place;
+    to[at] = to[at] | gained.word;
 }
 
-// One round: one use of each record.
-pub(crate) fn round(bundle: &[u8], sizes: Sizes, from: &[u32], to: &mut [u32])
-    requires { ⌜ Accepts (now bundle) sizes × (length (now to) ≡ tableWords) × (now to ≡ now from) ⌝ }
-    ensures { λ r. ⌜ now (to .exit) ≡ roundWords (sizes .entities) width (held (now (bundle .entry))) (now (from .entry)) ⌝ }
+// One round: one use of each step.
+pub(crate) fn round(steps: &[usize], count: usize, entities: usize, from: &[u32], to: &mut [u32])
+    requires { ⌜ (count ≤ length (now steps)) × ((m : ℕ) → m < count → headIn (getD (now steps) m 0) < length (now to)) ⌝ }
+    ensures { λ r. ⌜ now (to .exit) ≡ useSteps entities (now (steps .entry)) (now (from .entry)) (now (to .entry)) count ⌝ }
 {
     let mut n: usize = 0;
-    while n < sizes.records {
+    while n < count {
+        use_step(steps[n], entities, from, to);
         n += 1;
-        use_record(bundle, n, sizes.entities, from, to);
     }
 }

@@ -3,29 +3,33 @@ ghost use mathlib.Core.Path.{_≡_};
 ghost use Prim.Native.Nat.{_≤_};
 ghost use lib.ListN.{length};
 ghost use Rattle.rt0.specs.Word.{Fits};
-ghost use Rattle.tables.specs.Sizes.{mostEntities, width, tableWords};
+ghost use Rattle.words.specs.Sizes.{mostEntities, width, tableWords};
 ghost use Rattle.tables.specs.Open.{startWords};
 ghost use Rattle.bundle.specs.Rows.{Accepts};
 ghost use Rattle.bundle.specs.Held.{held};
 ghost use Rattle.tables.specs.Rest.{AtRest, RestsIn};
 use crate::round::round;
+use crate::same::same;
 use crate::start::OpenRoles;
 use crate::start::start;
-use crate::table::Table;
-use crate::table::copy;
-use crate::table::same;
 use bundle::read::Sizes;
+use words::step::Step;
+use words::step::write_steps;
+use words::table::Table;
+use words::table::copy;
 
 // Round after round from the words, each from the table before it, until one changes nothing; the number of rounds that did.
 fn settle(bundle: &[u8], sizes: Sizes, words: &mut [u32]) -> usize
     requires { ⌜ Accepts (now bundle) sizes × Fits (sizes .entities) mostEntities width (now words) ⌝ }
     ensures { λ r. ⌜ AtRest (sizes .entities) (held (now (bundle .entry))) (now (words .entry)) r (now (words .exit)) ⌝ }
 {
+    let mut steps = [0usize; Step::MOST];
+    write_steps(bundle, &mut steps);
     let mut rounds: usize = 0;
     loop {
         let mut from = [0u32; Table::WORDS];
         copy(words, &mut from);
-        round(bundle, sizes, &from, words);
+        round(&steps, sizes.records, sizes.entities, &from, words);
         if same(&from, words) {
             return rounds;
         }

@@ -6,12 +6,12 @@ ghost use Rattle.rt0.specs.Credential.{_·_};
 ghost use Rattle.rt0.specs.Completion.{isAbsent};
 ghost use Rattle.rt0.specs.Word.{everyoneWord, openWithin};
 ghost use Rattle.bundle.specs.Held.{shelves};
-ghost use Rattle.tables.specs.Sizes.{mostEntities, width, tableWords};
+ghost use Rattle.words.specs.Sizes.{mostEntities, width, tableWords};
 ghost use Rattle.tables.specs.Open.{openIn, absentRoles, startWords};
-use crate::table::Table;
 use bundle::access::Mark;
 use bundle::access::mark_at;
 use bundle::read::Sizes;
+use words::table::Table;
 
 // Which roles are open: those of the entities in one word, and those of the names in the other.
 pub struct OpenRoles {

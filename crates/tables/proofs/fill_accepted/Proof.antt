@@ -17,13 +17,15 @@ fill-table-requires c κs =
 absent-requires : tie.Need-absent-requires
 absent-requires c κs = held-entities _ (c .before .before .before .before .before .before .before .before .pre)
 
-fill-table-requires-2 : tie.Need-fill-table-requires-2
-fill-table-requires-2 c κs =
-    let start = c .before .before .before .before .before .before .before .before .before .before in
-    (start .pre, tables-enough (now (start .args .sure)) (now (start .args .possible)) (c .before .before .before .before .before .before .if1 .left) .1)
+fill-open-requires : tie.Need-fill-open-requires
+fill-open-requires c κs =
+    let first = c .before .before .before .before .before in
+    let start = first .before .before .before .before .before .before in
+    let enough = tables-enough (now (start .args .sure)) (now (start .args .possible)) (first .before .before .if1 .left) in
+    (start .pre, enough .1, search needs, first .fill-table .ensures .rests)
 
-cast-t17 : tie.Need-cast-t17
-cast-t17 c = search needs
+cast-t19 : tie.Need-cast-t19
+cast-t19 c = search needs
 
 same-length : tie.Need-same-length
 same-length c = search needs
@@ -33,11 +35,11 @@ same-length-2 c = search needs
 
 returns-2 : tie.Need-returns-2
 returns-2 c =
-    let marks = c .before .before .before .before in
+    let marks = c .before .before .before .before .before in
     let first = marks .before .before .before in
     let enough = first .before .before in
     both-left _ _ (enough .before .before .before .before .pre) _ _ _ (enough .if1 .left) (first .fill-table .ensures)
-    (rw (marks .absent .ensures) at (c .before .before .fill-table2 .ensures))
+    (rw (marks .absent .ensures) at (c .before .before .fill-open .ensures))
 
 pub fill-accepted-spec : {M : Type 1} → statement M
 fill-accepted-spec =
@@ -46,8 +48,8 @@ fill-accepted-spec =
     returns
     fill-table-requires
     absent-requires
-    fill-table-requires-2
-    cast-t17
+    fill-open-requires
+    cast-t19
     same-length
     same-length-2
     returns-2)

@@ -1,7 +1,7 @@
 -- `search::premise::fact_number` meets its contract.
 use native.Mathlib.Omega.{arith}
 use borrow.Author.Needs.{needs}
-use Rattle.tables.proofs.Given.{place-most}
+use Rattle.words.proofs.Given.{place-most}
 use Rattle.search.proofs.premise.fact_number.Statement.{statement}
 use Rattle.search.proofs.premise.fact_number.Tie as tie
 

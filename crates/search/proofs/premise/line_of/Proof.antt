@@ -3,7 +3,7 @@ use native.Mathlib.Omega.{arith}
 use borrow.Author.Needs.{needs}
 use mathlib.Core.Path.{_≡_, refl, sym, ap, _∙_}
 use denote.Ref.{now}
-use Rattle.tables.proofs.Filling.{past-end}
+use Rattle.words.proofs.Filling.{past-end}
 use Rattle.search.proofs.premise.line_of.Statement.{statement}
 use Rattle.search.proofs.premise.line_of.Tie as tie
 

@@ -6,8 +6,8 @@ use mathlib.Core.Path.{_≡_, refl, sym, ap, _∙_}
 use denote.Ref.{now}
 use Rattle.search.proofs.Steps.{extended-same, extended-twice, writing-on, progress-stop, progress-end}
 use lib.ListN.{length, length-set, take, drop}
-use Rattle.tables.specs.Sizes.{tableWords}
-use Rattle.tables.proofs.Filling.{copied-same}
+use Rattle.words.specs.Sizes.{tableWords}
+use Rattle.words.proofs.Filling.{copied-same}
 use Rattle.tables.proofs.Rounds.{roundTo, round-none, round-more, round-all}
 use Rattle.search.specs.Fact.{Backed}
 use Rattle.search.specs.Ledger.{Extended}
@@ -17,12 +17,12 @@ use Rattle.search.proofs.slip.one_round.Statement.{statement}
 use Rattle.search.proofs.slip.one_round.Tie as tie
 
 abbrev Inv-loop : tie.InvT-loop
-Inv-loop bundle sizes goal said₀ index₀ slip₀ lines words count₀ number₀ said index slip count number =
+Inv-loop bundle steps sizes goal said₀ index₀ slip₀ lines words count₀ number₀ said index slip count number =
     (number ≤ sizes .records) × Extended (bookIn bundle) index₀ slip₀ lines index slip count × Unsaid index goal
     × (said ≡ roundTo (sizes .entities) (held bundle) number said₀) × (length said ≡ tableWords) × Backed said index × (words ≡ said₀)
 
 abbrev μ-loop : tie.MeasureT-loop
-μ-loop bundle sizes goal said₀ index₀ slip₀ lines words count₀ number₀ said index slip count number = sizes .records - number
+μ-loop bundle steps sizes goal said₀ index₀ slip₀ lines words count₀ number₀ said index slip count number = sizes .records - number
 
 slice-aggregate-copy : tie.Need-slice-aggregate-copy Inv-loop μ-loop
 slice-aggregate-copy c = search needs
@@ -32,11 +32,11 @@ copy-requires c κs = search needs
 
 loop-holds : tie.Need-loop-holds Inv-loop μ-loop
 loop-holds c =
-    let start = c .before .before .before .before .before .before .before .before in
+    let start = c .before .before .before .before .before .before .before .before .before in
     let pre = start .pre in (
       search needs,
       extended-same (pre .0 .ledger),
-      pre .2,
+      pre .3,
       round-none (start .args .sizes .entities) (held (now (start .args .bundle))) _,
       pre .0 .words,
       pre .0 .backed,
@@ -52,9 +52,9 @@ slice-aggregate-use-record c = search needs
 use-record-requires : tie.Need-use-record-requires Inv-loop μ-loop
 use-record-requires c κs =
     let turn = c .before .before .before .before .before .before in
-    let pre = c .before .before .before .before .before .before .before .before .before .before .before .before .before .before .before .pre in
+    let pre = c .before .before .before .before .before .before .before .before .before .before .before .before .before .before .before .before .pre in
     let inv = turn .loop .inv in
-    (rw (inv .6) (writing-on (pre .0) (inv .1)), omega arith, inv .4, inv .5, inv .2)
+    (rw (inv .6) (writing-on (pre .0) (inv .1)), omega arith, pre .2, inv .4, inv .5, inv .2)
 
 mul-if2 : tie.Need-mul-if2 Inv-loop μ-loop
 mul-if2 c = search needs
@@ -66,7 +66,7 @@ same-length : tie.Need-same-length Inv-loop μ-loop
 same-length c =
     let call = c .before .before .before .before .before .before .before .before in
     let turn = c .before .before .before .before .before .before .before .before .before .before .before .before .before .before .before in
-    call .use-record .kept .1 .1 .1 .1 .0 ∙ (turn .loop .inv .4 ∙ sym (c .before .before .before .before .before .before .before .before .before .before .before .before .before .before .before .before .before .before .before .before .before .before .before .before .pre .0 .words))
+    call .use-record .kept .1 .1 .1 .1 .1 .0 ∙ (turn .loop .inv .4 ∙ sym (c .before .before .before .before .before .before .before .before .before .before .before .before .before .before .before .before .before .before .before .before .before .before .before .before .before .pre .0 .words))
 
 same-length-2 : tie.Need-same-length-2 Inv-loop μ-loop
 same-length-2 c = search needs
@@ -87,29 +87,29 @@ loop-again : tie.Need-loop-again Inv-loop μ-loop
 loop-again c =
     let call = c .before .before .before .before .before .before .before .before in
     let inv = c .before .before .before .before .before .before .before .before .before .before .before .before .before .before .before .loop .inv in
-    let pre = c .before .before .before .before .before .before .before .before .before .before .before .before .before .before .before .before .before .before .before .before .before .before .before .before .pre in
+    let pre = c .before .before .before .before .before .before .before .before .before .before .before .before .before .before .before .before .before .before .before .before .before .before .before .before .before .pre in
     let step = call .use-record .ensures in (
       search needs,
       extended-twice (inv .1) (step .1 .extended),
       record { inside = inv .2 .inside; none = c .if2 .left },
       round-more _ (pre .0 .accepts) _ (omega (arith, pre .1, c .before .before .before .before .before .before .before .before .before .before .before .before .before .if1 .taken)) (inv .3) (rw (inv .6) at (step .0)),
-      call .use-record .kept .1 .1 .1 .1 .0 ∙ inv .4,
+      call .use-record .kept .1 .1 .1 .1 .1 .0 ∙ inv .4,
       step .1 .otherwise (c .if2 .left),
       inv .6,
     )
 
 same-length-4 : tie.Need-same-length-4 Inv-loop μ-loop
-same-length-4 c = c .before .before .loop .inv .4 ∙ sym (c .before .before .before .before .before .before .before .before .before .before .before .pre .0 .words)
+same-length-4 c = c .before .before .loop .inv .4 ∙ sym (c .before .before .before .before .before .before .before .before .before .before .before .before .pre .0 .words)
 
 same-length-5 : tie.Need-same-length-5 Inv-loop μ-loop
-same-length-5 c = c .before .before .loop .inv .1 .ledger .size ∙ sym (c .before .before .before .before .before .before .before .before .before .before .before .pre .0 .ledger .size)
+same-length-5 c = c .before .before .loop .inv .1 .ledger .size ∙ sym (c .before .before .before .before .before .before .before .before .before .before .before .before .pre .0 .ledger .size)
 
 same-length-6 : tie.Need-same-length-6 Inv-loop μ-loop
 same-length-6 c = c .before .before .loop .inv .1 .size
 
 returns-2 : tie.Need-returns-2 Inv-loop μ-loop
 returns-2 c =
-    let pre = c .before .before .before .before .before .before .before .before .before .before .before .pre in
+    let pre = c .before .before .before .before .before .before .before .before .before .before .before .before .pre in
     let inv = c .before .before .loop .inv in
     progress-end (inv .1) (inv .2)
     (round-all _ (pre .0 .accepts) _ (c .before .before .loop .number) (omega (arith, pre .1, c .if1 .left)) (inv .3), inv .5)

@@ -3,7 +3,7 @@ use native.Mathlib.Omega.{arith}
 use borrow.Author.Needs.{needs}
 use Prim.Native.Nat.{suc, _+_, _-_, _*_, _/_, _%_, _<_, _≤_, min}
 use Rattle.search.proofs.Stating.{entities-most, number-most, line-room, one-more}
-use Rattle.tables.specs.Sizes.{slipLines}
+use Rattle.words.specs.Sizes.{slipLines}
 use Rattle.search.proofs.slip.state.Statement.{statement}
 use Rattle.search.proofs.slip.state.Tie as tie
 

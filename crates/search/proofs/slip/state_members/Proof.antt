@@ -5,7 +5,7 @@ use Prim.Native.Nat.{suc, _+_, _-_, _*_, _/_, _%_, _<_, _≤_, min}
 use mathlib.Core.Path.{_≡_, refl, sym, ap, _∙_}
 use denote.Ref.{now}
 use Rattle.search.proofs.Steps.{none-more, one-at-most, bit-one, extended-same, extended-twice, writing-on, progress-stop, progress-end, stated-none, stated-more}
-use Rattle.tables.specs.Sizes.{mostEntities}
+use Rattle.words.specs.Sizes.{mostEntities}
 use Rattle.search.specs.Ledger.{Extended}
 use Rattle.bundle.specs.Held.{bookIn}
 use Rattle.search.specs.Writing.{Unsaid, AllStated}

@@ -4,68 +4,82 @@ use borrow.Author.Needs.{needs}
 use Prim.Native.Nat.{suc, _+_, _-_, _*_, _/_, _%_, _<_, _≤_, min}
 use mathlib.Core.Path.{_≡_, refl, sym, ap, _∙_}
 use denote.Ref.{now}
-use Rattle.search.proofs.Stating.{place-there}
+use Rattle.search.proofs.Stating.{place-there, gained-place, gained-word, gained-use}
 use Rattle.search.proofs.Steps.{extended-same, extended-twice, writing-on, progress-stop, progress-end}
-use Rattle.tables.specs.Sizes.{tableWords}
+use Rattle.bundle.specs.Access.{recordOf}
+use Rattle.words.specs.Sizes.{tableWords}
+use Rattle.words.specs.Give.{giveOf, headPlace}
 use Rattle.search.proofs.Backing.{backed-more, none-new}
 use Rattle.search.proofs.slip.use_record.Statement.{statement}
 use Rattle.search.proofs.slip.use_record.Tie as tie
 
--- the head's word is there
-there : (c : tie.After-head-place) → c .head-place .result < tableWords
-there c = let pre = c .before .before .before .before .before .before .before .pre in place-there (pre .0) (pre .1) (c .before .record-at .ensures) (c .head-place .ensures)
+-- the place and the word that are gained are those of the record, and the place is there
+module _ (c : tie.After-gain) where
+  abbrev start : tie.Start
+  start = c .before .before .before .before .before .before .before .before .before
 
-record-at-requires : tie.Need-record-at-requires
-record-at-requires c κs = search needs
+  there : c .gain .result .place < tableWords
+  there = place-there (start .pre .0) (start .pre .1) (now (start .args .steps)) (start .pre .2) (c .gain .ensures .0)
 
-head-place-requires : tie.Need-head-place-requires
-head-place-requires c κs = search needs
+  place-is : c .gain .result .place ≡ headPlace (recordOf (now (start .args .bundle)) (start .args .turn .number))
+  place-is = gained-place (start .pre .0) (start .pre .1) (now (start .args .steps)) (start .pre .2) (c .gain .ensures .0)
 
-give-requires : tie.Need-give-requires
-give-requires c κs = search needs
+  word-is : c .gain .result .word ≡ giveOf (start .args .entities) (now (start .args .words)) (recordOf (now (start .args .bundle)) (start .args .turn .number))
+  word-is = gained-word (start .pre .0) (start .pre .1) (now (start .args .steps)) (start .pre .2) (c .gain .ensures .1)
+
+sub-gain : tie.Need-sub-gain
+sub-gain c = omega (arith, c .before .before .before .before .before .before .before .pre .1 .above)
+
+mul-gain : tie.Need-mul-gain
+mul-gain c = search needs
+
+shared-slice-read-gain : tie.Need-shared-slice-read-gain
+shared-slice-read-gain c =
+    let pre = c .before .before .before .before .before .before .before .before .pre in
+    omega (arith, pre .1 .above, pre .1 .within, pre .2 .enough)
+
+gain-requires : tie.Need-gain-requires
+gain-requires c κs = search needs
 
 mul-before : tie.Need-mul-before
-mul-before c = omega (arith, there (c .before))
+mul-before c = omega (arith, there c)
 
 slice-read-before : tie.Need-slice-read-before
-slice-read-before c = omega (arith, there (c .before .before))
+slice-read-before c = omega (arith, there (c .before))
 
 mul-said : tie.Need-mul-said
-mul-said c = omega (arith, there (c .before .before))
+mul-said c = omega (arith, there (c .before))
 
 slice-write-said : tie.Need-slice-write-said
-slice-write-said c = omega (arith, there (c .before .before))
+slice-write-said c = omega (arith, there (c .before))
 
 same-length : tie.Need-same-length
 same-length c = search needs
 
 returns : tie.Need-returns
 returns c =
-    let start = c .before .before .before .before .before .before .before .before .before .before in
-    let pre = start .pre in
-    let place = c .before .before .before .head-place in
-    let word = c .before .before .give in
-    let same = none-new (now (start .args .said)) (place .result) (word .result) (c .if1 .taken) in (
-      rw (place .ensures, word .ensures, c .before .before .before .before .record-at .ensures),
-      progress-end (extended-same (pre .0 .ledger)) (pre .4) (rw same (pre .3)),
+    let gained = c .before .before in
+    let pre = start gained .pre in
+    let same = none-new (now (start gained .args .said)) (gained .gain .result .place) (gained .gain .result .word) (c .if1 .taken) in (
+      gained-use (pre .0) (pre .1) (now (start gained .args .steps)) (pre .2) (now (start gained .args .said)) (gained .gain .ensures .0) (gained .gain .ensures .1),
+      progress-end (extended-same (pre .0 .ledger)) (pre .5) (rw same (pre .4)),
     )
 
-mul-t14 : tie.Need-mul-t14
-mul-t14 c = omega (arith, there (c .before .before .before))
+mul-t16 : tie.Need-mul-t16
+mul-t16 c = omega (arith, there (c .before .before))
 
 state-members-requires : tie.Need-state-members-requires
 state-members-requires c κs =
-    let pre = c .before .before .before .before .before .before .before .before .before .before .before .before .pre in
-    let place = c .before .before .before .before .before in
-    let record-is = c .before .before .before .before .before .before .record-at .ensures in (
+    let gained = c .before .before .before .before in
+    let pre = start gained .pre in (
       pre .0,
       record {
         number = pre .1;
-        first = rw (place .head-place .ensures, record-is);
-        inside = omega (arith, there place);
-        word = rw record-is at (c .before .before .before .before .give .ensures);
+        first = rw (place-is gained);
+        inside = omega (arith, there gained);
+        word = word-is gained;
       },
-      pre .4,
+      pre .5,
     )
 
 same-length-2 : tie.Need-same-length-2
@@ -79,17 +93,15 @@ same-length-4 c = search needs
 
 returns-2 : tie.Need-returns-2
 returns-2 c =
-    let start = c .before .before .before .before .before .before .before .before .before .before .before .before .before .before .before .before .before in
-    let pre = start .pre in
-    let place = c .before .before .before .before .before .before .before .before .before .before in
-    let word = c .before .before .before .before .before .before .before .before .before .give in
+    let gained = c .before .before .before .before .before .before .before .before .before in
+    let pre = start gained .pre in
     let stated = c .before .before .before .before .state-members .ensures in (
-      rw (place .head-place .ensures, word .ensures, c .before .before .before .before .before .before .before .before .before .before .before .record-at .ensures),
+      gained-use (pre .0) (pre .1) (now (start gained .args .steps)) (pre .2) (now (start gained .args .said)) (gained .gain .ensures .0) (gained .gain .ensures .1),
       record {
         extended = stated .extended;
         last = stated .last;
-        otherwise = λ none. backed-more (now (start .args .said)) (place .head-place .result) (word .result) (stated .extended)
-            (omega (arith, there place, pre .2)) (pre .3) (stated .otherwise none);
+        otherwise = λ none. backed-more (now (start gained .args .said)) (gained .gain .result .place) (gained .gain .result .word) (stated .extended)
+            (omega (arith, there gained, pre .3)) (pre .4) (stated .otherwise none);
       },
     )
 
@@ -97,16 +109,17 @@ pub use-record-spec : {M : Type 1} → statement M
 use-record-spec =
     tie.close
     (tie.spec
-    record-at-requires
-    head-place-requires
-    give-requires
+    sub-gain
+    mul-gain
+    shared-slice-read-gain
+    gain-requires
     mul-before
     slice-read-before
     mul-said
     slice-write-said
     same-length
     returns
-    mul-t14
+    mul-t16
     state-members-requires
     same-length-2
     same-length-3

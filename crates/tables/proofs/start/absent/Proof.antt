@@ -5,7 +5,7 @@ use Prim.Native.Nat.{_-_, _≤_}
 use mathlib.Core.Path.{_≡_, _∙_}
 use Rattle.tables.specs.Open.{absentWord}
 use mathlib.Core.Logic.{⊎-elim}
-use Rattle.tables.proofs.Gained.{absent-more, absent-other}
+use Rattle.tables.proofs.Opened.{absent-more, absent-other}
 use Rattle.tables.proofs.start.absent.Statement.{statement}
 use Rattle.tables.proofs.start.absent.Tie as tie
 

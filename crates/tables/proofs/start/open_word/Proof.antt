@@ -1,7 +1,7 @@
 -- `tables::start::open_word` meets its contract.
 use borrow.Author.Needs.{needs}
 use Prim.Native.Nat.{_/_, _%_}
-use Rattle.tables.specs.Sizes.{width}
+use Rattle.words.specs.Sizes.{width}
 use Rattle.tables.proofs.Starts.{open-word, closed-word}
 use Rattle.tables.proofs.start.open_word.Statement.{statement}
 use Rattle.tables.proofs.start.open_word.Tie as tie

@@ -4,9 +4,9 @@ use Prim.Native.Nat.{_-_, _≤_}
 use mathlib.Core.Path.{_≡_}
 use lib.ListN.{length, length-set, take}
 use Rattle.rt0.specs.Word.{openWords}
-use Rattle.tables.specs.Sizes.{width, tableWords}
+use Rattle.words.specs.Sizes.{width, tableWords}
 use Rattle.tables.specs.Open.{openIn}
-use Rattle.tables.proofs.Filling.{filled-whole}
+use Rattle.words.proofs.Filling.{filled-whole}
 use Rattle.tables.proofs.Starts.{open-more}
 use Rattle.tables.proofs.start.start.Statement.{statement}
 use Rattle.tables.proofs.start.start.Tie as tie

@@ -1,0 +1,35 @@
+-- The sizes of the tables and of the slip, each named once for definitions, contracts, laws and proofs; Table and Slip name them for the
+-- code. They are plain numerals, so that arithmetic sees them, and each says how it follows from those before it.
+use Prim.Native.Nat.{ℕ}
+
+-- the most entities of a bundle: a word has a bit for each
+abbrev pub mostEntities : ℕ
+mostEntities = 32
+
+-- the words that a table keeps for each entity, one for each role name
+abbrev pub width : ℕ
+width = 16
+
+-- the words of a table: width for each of mostEntities
+abbrev pub tableWords : ℕ
+tableWords = 512
+
+-- the facts that a table can hold, one for each bit: mostEntities for each of tableWords
+abbrev pub factCount : ℕ
+factCount = 16384
+
+-- the values that a part of a step can have: more than the number of words
+abbrev pub stepPart : ℕ
+stepPart = 4096
+
+-- the most rounds: mostEntities for each of 240 credentials
+abbrev pub mostRounds : ℕ
+mostRounds = 7680
+
+-- the lines of the longest slip: mostEntities for each of 240 credentials
+abbrev pub slipLines : ℕ
+slipLines = 7680
+
+-- its bytes: 8 for each line
+abbrev pub slipBytes : ℕ
+slipBytes = 61440
