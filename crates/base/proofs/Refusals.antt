@@ -12,7 +12,7 @@ use mathlib.Core.List.{List, [], _∷_, _++_}
 use lib.Dec.{ltb}
 use borrow.Author.Tests.{ltb-true, lt-ltb}
 use Rattle.base.specs.Lowest.{LowestBelow, lowest}
-use Rattle.base.specs.Refusals.{Row, AtZero, FromOne, Applies, Clear, Due, Judged, refused, passed}
+use Rattle.base.specs.Refusals.{Row, AtPlace, AtZero, FromOne, Applies, Clear, Due, Judged, refused, passed}
 use Rattle.base.specs.Refusals.{OnePlace, AllOnePlace, AllNumbered}
 use Rattle.base.specs.Refusals.{Refusal, given, clear, Test, zeroIf, placeBelow, lowestPlace, lowestFromOne, pick, first, Finds, Decided}
 use Rattle.base.proofs.Flags.{Tells}
@@ -77,8 +77,11 @@ numbered-both (r ∷ rs) ss s t = (s .0, numbered-both rs ss (s .1) t)
 
 -- Rows that apply at one place at most.
 
+pub at-place : (n : ℕ) (P : Type 0) → OnePlace (AtPlace n P)
+at-place n P p q a b = a .0 ∙ sym (b .0)
+
 pub zero-place : (P : Type 0) → OnePlace (AtZero P)
-zero-place P p q a b = a .0 ∙ sym (b .0)
+zero-place P = at-place 0 P
 
 is-lowest : {holds : ℕ → Bool} {n k : ℕ} → LowestBelow holds n k → IsLowest holds n k
 is-lowest r = record { most = omega (arith, r .below); missed = r .lowest; hit = λ _. r .holds }

@@ -18,9 +18,12 @@ pub record Row : Type 1 where
 abbrev pub row : ℕ → (ℕ → Type 0) → Row
 row n At = record { number = n; At = At }
 
--- where this holds, at place 0
+-- where this holds, at that place
+abbrev pub AtPlace : ℕ → Type 0 → ℕ → Type 0
+AtPlace n P place = (place ≡ n) × P
+
 abbrev pub AtZero : Type 0 → ℕ → Type 0
-AtZero P place = (place ≡ 0) × P
+AtZero P = AtPlace 0 P
 
 -- at the places of At, counted from 1 and not from 0
 abbrev pub FromOne : (ℕ → Type 0) → ℕ → Type 0

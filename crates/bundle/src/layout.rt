@@ -38,17 +38,17 @@ pub fn first_wrong(first: &[u8]) -> bool
 }
 
 // The number of records in record block j + 1 of a bundle of n.
-fn records_in(n: usize, j: usize) -> usize
-    requires { ⌜ j < 7 ⌝ }
+pub fn records_in(n: usize, j: usize) -> usize
     ensures { λ r. ⌜ (r ≡ recordsIn n j) × (r ≤ 40) ⌝ }
 {
-    let before = Block::RECORDS * j;
-    if n <= before {
-        0
-    } else if Block::RECORDS <= n - before {
+    if n / Block::RECORDS < j {
+        return 0;
+    }
+    let rest = n - Block::RECORDS * j;
+    if Block::RECORDS < rest {
         Block::RECORDS
     } else {
-        n - before
+        rest
     }
 }
 
