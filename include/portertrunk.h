@@ -1,6 +1,6 @@
-/* Portertrunk for C programs: is this person entitled?
+/* Portertrunk for C programs: is this person entitled? And bundles written and appended to.
  *
- * Two functions, proved for every input: any bytes at all may be lent, and each call returns. Link
+ * Four functions, proved for every input: any bytes at all may be lent, and each call returns. Link
  * target/staticlib/libcapi.a, which `rt staticlib capi` writes (x86-64, System V calling convention).
  *
  * A slice is passed as a pointer and the number of its elements. Where that number is 0 the pointer
@@ -8,12 +8,13 @@
  *
  * Nothing is asked of what the memory holds. What a C caller must keep is what the proof's own language
  * guarantees of every slice: that many elements stand at the pointer, and may be read; the tables are
- * aligned to 4 bytes; memory that is lent for writing (sure, possible, slip of the search) may be written,
- * overlaps no other memory of the same call, and no other thread touches it meanwhile.
+ * aligned to 4 bytes; memory that is lent for writing (sure, possible, slip of the search; bundle of write
+ * and append) may be written, overlaps no other memory of the same call, and no other thread touches it
+ * meanwhile. So neither the list of records nor the record that is appended may stand in the bundle's buffer.
  *
  * A question is three numbers: is the person d a member of the role r of the entity a?
  *
- * The result of either function holds five numbers:
+ * The result of the search and of the check holds five numbers:
  *
  *     bits 56 to 63  number   0, or the number of a refusal
  *     bits 40 to 55  place    0, or where the refusal was found
@@ -21,24 +22,40 @@
  *     bits 16 to 31  rounds   the number of rounds over the credentials held; 0 with a refusal, and from the check
  *     bits  0 to 15  lines    the lines of the slip written or accepted; 0 otherwise
  *
+ * The result of write and of append holds two:
+ *
+ *     bits 56 to 63  number   0, or the number of a refusal
+ *     bits  0 to 55  length   with number 0 the length in bytes of the bundle that now stands in the buffer
+ *                    place    with a refusal where it was found
+ *
+ * so that with number 0 the result is the length. A list of records may be long, and its places with it: a place has
+ * 56 bits here and not 16. One of 2^56 or more would be given modulo 2^56; no address space has such a list.
+ *
  * The refusals. The first row that applies is the answer, and the place is the lowest that applies. The rows 61 to 65 are one
  * step in that order: the place is the lowest wrong record, and of what is wrong with that record the first row is the answer.
+ * Search, check and append read a bundle, and give 1 to 5 and 61 to 65 for it. Write gives 1 and 3, 61 to 65 for the records
+ * of its list, 12 and 13; append gives the reader's rows, then 61 to 65 for its record, 12 and 13.
  *
- *      1  the bundle's length is 0, above 3,584 or no multiple of 512; place 0
+ *      1  the bundle's length is 0, above 3,584 or no multiple of 512; write: the list of records is not in whole twelves;
+ *         append also: the length is beyond the buffer, or the record has not twelve bytes; place 0
  *      2  the check of a block differs from the one that stands in it; place: the block, from 0
- *      3  block 0 breaks its layout: edition, entities, names, records, marks, or a byte that should be zero; place 0
+ *      3  block 0 breaks its layout: edition, entities, names, records, marks, or a byte that should be zero; write: entities
+ *         not 1 to 32, names not 1 to 16, or wrong marks; place 0
  *      4  the number of blocks does not fit the number of records; place 0
  *      5  in a record block an unused place, a byte that should be zero, its number or its count is wrong; place: the block
- *     61  a record's form, its byte 0, is not 1 to 4; place: the record, from 1
+ *     61  a record's form, its byte 0, is not 1 to 4; place: the record, from 1, in the bundle or in the list; of an append's
+ *         own record, one more than the bundle has
  *     62  an intersection (form 4) has not 2 or 3 parts in byte 3; place: the record
- *     63  an entity of a record is 0 or above the bundle's number of entities; place: the record
- *     64  a role name of a record is 0 or above the bundle's number of names; place: the record
+ *     63  an entity of a record is 0 or above the number of entities; place: the record
+ *     64  a role name of a record is 0 or above the number of names; place: the record
  *     65  a byte of a record that its form does not use is not zero; place: the record
  *      7  the question names an entity or a role name that the bundle does not have, or 0; place 0
  *      8  a lent table has fewer than 512 words, or the slip buffer fewer than 61,440 bytes (search only); place 0
  *      9  the slip's length is 0, above 61,440 or no multiple of 8 (check only); place 0
  *     10  a line of the slip is not right: its credential, a premise, or what the premises state (check only); place: the line, from 1
  *     11  every line is right, and the last states another fact than the question's (check only); place 0
+ *     12  a 241st record would be needed (write and append only); place 241
+ *     13  the buffer is too short for the bundle (write and append only); place 0
  *
  * The twelve bytes of a record, from 0: the form, the issuer, a role name, and then by the form
  *
@@ -57,8 +74,11 @@
 extern "C" {
 #endif
 
-#define PORTERTRUNK_WORDS 512        /* words that a table needs */
-#define PORTERTRUNK_SLIP_BYTES 61440 /* bytes that the slip buffer needs: 7,680 lines of 8 */
+#define PORTERTRUNK_WORDS 512         /* words that a table needs */
+#define PORTERTRUNK_SLIP_BYTES 61440  /* bytes that the slip buffer needs: 7,680 lines of 8 */
+#define PORTERTRUNK_MARKS 32          /* mark bytes that a bundle is written from, one for each shelf */
+#define PORTERTRUNK_RECORD_BYTES 12   /* bytes of a record */
+#define PORTERTRUNK_BUNDLE_BYTES 3584 /* bytes of the longest bundle, which has 240 records */
 
 /* Searches. A refused call leaves every lent word and byte as it was. Otherwise the first 512 words of
  * each table are written: role r of entity a is word 16 * (a - 1) + r - 1, and the member d is bit d - 1.
@@ -74,12 +94,31 @@ uint64_t portertrunk_search(const uint8_t *bundle, size_t bundle_bytes, uint8_t 
 uint64_t portertrunk_check(const uint8_t *bundle, size_t bundle_bytes, uint8_t d, uint8_t a, uint8_t r,
                            const uint8_t *slip, size_t slip_bytes);
 
-/* The parts of a result. */
+/* Writes a bundle to the front of the buffer `bundle`: so many entities (1 to 32) and names (1 to 16), the mark bytes of the
+ * 32 shelves (1 present, 2 absent, 0 for a shelf above the number of entities), and the records one after the other, twelve
+ * bytes each, of which there may be none. A bundle of n records has 512 bytes and 512 more for every 40 records begun. Bytes
+ * past it stay. A refused call writes nothing. What is written can be read back, and is the only encoding of what was given. */
+uint64_t portertrunk_write(uint8_t entities, uint8_t names, const uint8_t *marks, size_t marks_bytes,
+                           const uint8_t *records, size_t records_bytes, uint8_t *bundle, size_t bundle_bytes);
+
+/* Puts one record, of twelve bytes, last in the bundle that stands in the first `length` bytes of the buffer `bundle`. Only
+ * block 0 and the record block concerned are written; where the record begins a block, its 512 bytes are written, whatever
+ * stood there. Bytes past the result stay. A refused call writes nothing. The bytes are those that a write of all the records
+ * would give, and every slip that was accepted before is accepted after. */
+uint64_t portertrunk_append(uint8_t *bundle, size_t bundle_bytes, size_t length, const uint8_t *record, size_t record_bytes);
+
+/* The number of a refusal, or 0, in a result of any of the four. */
 static inline unsigned portertrunk_number(uint64_t result) { return (unsigned)(result >> 56); }
+
+/* The other parts of a result of the search or of the check. */
 static inline unsigned portertrunk_place(uint64_t result) { return (unsigned)(result >> 40 & 0xffff); }
 static inline unsigned portertrunk_verdict(uint64_t result) { return (unsigned)(result >> 32 & 0xff); }
 static inline unsigned portertrunk_rounds(uint64_t result) { return (unsigned)(result >> 16 & 0xffff); }
 static inline unsigned portertrunk_lines(uint64_t result) { return (unsigned)(result & 0xffff); }
+
+/* The other part of a result of write or append: the length where the number is 0, and the place where it is not. */
+static inline size_t portertrunk_length(uint64_t result) { return (size_t)(result & 0xffffffffffffff); }
+static inline uint64_t portertrunk_wide_place(uint64_t result) { return result & 0xffffffffffffff; }
 
 #ifdef __cplusplus
 }

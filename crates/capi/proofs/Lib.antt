@@ -1,2 +1,4 @@
--- The laws that the two functions of the C interface cite.
+-- The laws that the functions of the C interface cite, and what their results unpack to. Unpacking: the search and the check. Written: the
+-- writer.
 pub mod Unpacking
+pub mod Written

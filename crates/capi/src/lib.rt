@@ -1,13 +1,19 @@
-// The library for C: the search and the check under plain names, each with one packed number as its answer.
+// The library for C: the search, the check and the writer under plain names, each with one packed number as its answer.
 // include/portertrunk.h says in words what is lent and what comes back.
 ghost use Rattle.bundle.specs.Question.{question};
 ghost use Rattle.search.specs.Promise.{lent};
 ghost use Rattle.capi.specs.Packed.{PackedPromise, PackedCheck};
+ghost use Rattle.capi.specs.Written.{PackedWrite, PackedAppend};
+use crate::pack::pack_wrote;
 use answers::pack::pack;
 use answers::pack::pack_answer;
 use checker::check::Checked;
 use checker::check::check;
 use search::search;
+use writer::append::append;
+use writer::write::write;
+
+mod pack;
 
 // The packed answer of the search.
 #[no_mangle]
@@ -37,4 +43,26 @@ pub extern "C" fn portertrunk_check(bundle: &[u8], d: u8, a: u8, r: u8, slip: &[
         Checked::Accepted { lines } => pack(0, 0, 0, 0, lines),
         Checked::Refused { number, place } => pack(number, place, 0, 0, 0),
     }
+}
+
+// The packed answer to a write.
+#[no_mangle]
+pub extern "C" fn portertrunk_write(
+    entities: u8,
+    names: u8,
+    marks: &[u8],
+    records: &[u8],
+    bundle: &mut [u8],
+) -> u64
+    ensures { λ w. ⌜ PackedWrite entities names (now (marks .entry)) (now (records .entry)) (now (bundle .entry)) (now (bundle .exit)) w ⌝ }
+{
+    pack_wrote(write(entities, names, marks, records, bundle))
+}
+
+// The packed answer to an append.
+#[no_mangle]
+pub extern "C" fn portertrunk_append(bundle: &mut [u8], length: usize, record: &[u8]) -> u64
+    ensures { λ w. ⌜ PackedAppend (now (bundle .entry)) length (now («record» .entry)) (now (bundle .exit)) w ⌝ }
+{
+    pack_wrote(append(bundle, length, record))
 }
