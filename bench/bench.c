@@ -4,30 +4,16 @@
  *
  * It repeats the search for one second and at least ten times, and prints the answer, its rounds, the lines of its slip, and
  * the shortest time of all in microseconds, as the end of a line of the table that bench/run prints. */
+#include "clock.h"
 #include "portertrunk.h"
 #include <stdio.h>
 
-struct timespec {
-    long tv_sec;
-    long tv_nsec;
-};
-extern int clock_gettime(int clock, struct timespec *now);
 extern int atoi(const char *text);
-
-#define MONOTONIC_CLOCK 1
-#define LEAST_SEARCHES 10
-#define NANOSECONDS_IN_ALL 1000000000L
 
 static uint8_t bundle[3585];
 static uint32_t sure[PORTERTRUNK_WORDS];
 static uint32_t possible[PORTERTRUNK_WORDS];
 static uint8_t slip[PORTERTRUNK_SLIP_BYTES];
-
-static long nanoseconds(void) {
-    struct timespec now;
-    clock_gettime(MONOTONIC_CLOCK, &now);
-    return now.tv_sec * 1000000000L + now.tv_nsec;
-}
 
 static const char *in_words(uint64_t result) {
     static const char *const words[] = {"REFUSED", "YES", "NO", "UNSURE"};
@@ -43,12 +29,11 @@ int main(int count, char **words) {
     size_t bundle_bytes = fread(bundle, 1, sizeof bundle, stdin);
     uint64_t result = 0;
     long best = -1, start = nanoseconds();
-    for (long done = 0; done < LEAST_SEARCHES || nanoseconds() - start < NANOSECONDS_IN_ALL; done++) {
+    for (long done = 0; once_more(done, start); done++) {
         long before = nanoseconds();
         result = portertrunk_search(bundle, bundle_bytes, person, entity, role, sure, PORTERTRUNK_WORDS, possible,
                                     PORTERTRUNK_WORDS, slip, PORTERTRUNK_SLIP_BYTES);
-        long took = nanoseconds() - before;
-        if (best < 0 || took < best) best = took;
+        best = shorter(best, nanoseconds() - before);
     }
     printf("%-8s %6u %6u %14.1f\n", in_words(result), portertrunk_rounds(result), portertrunk_lines(result),
            (double)best / 1000.0);

@@ -306,7 +306,7 @@ fn record_in_layout(random: &mut Random, draft: &Draft, layout: usize) -> Record
 }
 
 /// The five mistakes that a record can have.
-const MISTAKES: [u8; 5] = [
+pub const MISTAKES: [u8; 5] = [
     UNKNOWN_FORM,
     NUMBER_OF_PARTS,
     ENTITY_OUT_OF_RANGE,

@@ -148,13 +148,13 @@ impl Came {
     }
 }
 
-fn read_number(file: &mut impl Read) -> io::Result<usize> {
+pub fn read_number(file: &mut impl Read) -> io::Result<usize> {
     let mut bytes = [0; 4];
     file.read_exact(&mut bytes)?;
     Ok(u32::from_le_bytes(bytes) as usize)
 }
 
-fn read_bytes(file: &mut impl Read, count: usize) -> io::Result<Vec<u8>> {
+pub fn read_bytes(file: &mut impl Read, count: usize) -> io::Result<Vec<u8>> {
     let mut bytes = vec![0; count];
     file.read_exact(&mut bytes)?;
     Ok(bytes)

@@ -16,21 +16,28 @@ use crate::reader::{
 use crate::service::{ask, check, Answer, Question};
 use crate::shape::{self, Draft};
 use crate::slip::{bytes_of, check_slip, lines_of, write_slip, LINE};
+use crate::writer_figures::try_writer;
 
 /// Counts what was asked and tells what came out otherwise.
-struct Tally {
+pub struct Tally {
     asked: usize,
     wrong: usize,
 }
 
 impl Tally {
-    fn expect<T: PartialEq + std::fmt::Debug>(&mut self, what: &str, expected: T, came: T) {
+    pub fn expect<T: PartialEq + std::fmt::Debug>(&mut self, what: &str, expected: T, came: T) {
         self.asked += 1;
         if expected != came {
             self.wrong += 1;
-            println!("wrong: {what}: expected {expected:?}, came {came:?}");
+            let [expected, came] = [shown(expected), shown(came)];
+            println!("wrong: {what}: expected {expected}, came {came}");
         }
     }
+}
+
+/// A value in words, cut where it is long.
+fn shown(value: impl std::fmt::Debug) -> String {
+    format!("{value:?}").chars().take(400).collect()
 }
 
 /// Tries everything; true when all figures come out as stated.
@@ -42,6 +49,7 @@ pub fn try_figures() -> bool {
     try_walks(&mut tally);
     try_mistakes(&mut tally);
     try_first_mistakes(&mut tally);
+    try_writer(&mut tally);
     for seed in 0..400 {
         try_mistaken_records(&mut tally, seed);
         try_membership(&mut tally, seed);

@@ -28,12 +28,11 @@ pub const ABSENT: u8 = 2;
 #[derive(Clone, Copy, Debug, PartialEq, Eq)]
 pub struct Refusal {
     pub number: u8,
-    pub place: u16,
+    pub place: usize,
 }
 
 impl Refusal {
     pub fn new(number: u8, place: usize) -> Refusal {
-        let place = place as u16;
         Refusal { number, place }
     }
 }
@@ -150,16 +149,15 @@ fn read_first_block(block: &[u8]) -> Option<Heading> {
         entities,
         names,
         credentials: usize::from(credentials),
-        absent: read_marks(block, entities)?,
+        absent: read_marks(&block[4..36], entities)?,
     })
 }
 
-/// Reads the marks of the shelves and gives the absent ones.
-fn read_marks(block: &[u8], entities: u8) -> Option<BTreeSet<u8>> {
+/// Reads the marks of the 32 shelves and gives the absent ones.
+pub fn read_marks(marks: &[u8], entities: u8) -> Option<BTreeSet<u8>> {
     let mut absent = BTreeSet::new();
-    for entity in 1..=MOST_ENTITIES {
-        let mark = block[3 + usize::from(entity)];
-        match mark {
+    for (entity, mark) in (1..=MOST_ENTITIES).zip(marks) {
+        match *mark {
             PRESENT if entity <= entities => {}
             ABSENT if entity <= entities => {
                 absent.insert(entity);
@@ -214,7 +212,7 @@ pub fn record_start(number: usize) -> usize {
 }
 
 /// Reads one record in which nothing is wrong.
-fn read_record(record: &[u8]) -> Credential {
+pub fn read_record(record: &[u8]) -> Credential {
     let body = match record[0] {
         1 => Body::Member(record[3]),
         2 => Body::Contained(Role::new(record[3], record[4])),

@@ -24,18 +24,18 @@ struct Disagreement {
 /// How often each outcome was expected, and at how many places: of a refusal
 /// by its number, otherwise by the verdict.
 #[derive(Default)]
-struct Outcomes {
-    seen: BTreeMap<String, (usize, BTreeSet<u16>)>,
+pub struct Outcomes {
+    seen: BTreeMap<String, (usize, BTreeSet<usize>)>,
 }
 
 impl Outcomes {
-    fn note(&mut self, answer: &Answer) {
-        let (count, places) = self.seen.entry(outcome(answer)).or_default();
+    pub fn note(&mut self, outcome: String, place: usize) {
+        let (count, places) = self.seen.entry(outcome).or_default();
         *count += 1;
-        places.insert(answer.place);
+        places.insert(place);
     }
 
-    fn print(&self) {
+    pub fn print(&self) {
         for (outcome, (count, places)) in &self.seen {
             let different = places.len();
             println!("outcome: {outcome}: {count} cases, different places: {different}");
@@ -68,7 +68,8 @@ pub fn compare(cases_path: &str, answers_path: &str) -> io::Result<bool> {
         };
         counts[usize::from(case.group)] += 1;
         let expected = own_answer(&case);
-        outcomes.note(&Answer::unpacked(expected.packed));
+        let answer = Answer::unpacked(expected.packed);
+        outcomes.note(outcome(&answer), usize::from(answer.place));
         if let Err(difference) = agree(&case, &expected, &came) {
             disagreements += 1;
             let size = case.size();
@@ -119,7 +120,7 @@ fn print_disagreement(found: &Disagreement) {
     println!("slip: {}", hex(case.slip()));
 }
 
-fn hex(bytes: &[u8]) -> String {
+pub fn hex(bytes: &[u8]) -> String {
     bytes.iter().map(|byte| format!("{byte:02x}")).collect()
 }
 
@@ -142,7 +143,7 @@ fn agree(case: &Case, expected: &Came, came: &Came) -> Result<(), String> {
 }
 
 /// Compares two runs of words or bytes of the same length.
-fn agree_items<T>(what: &str, expected: &[T], came: &[T]) -> Result<(), String>
+pub fn agree_items<T>(what: &str, expected: &[T], came: &[T]) -> Result<(), String>
 where
     T: PartialEq + std::fmt::LowerHex,
 {

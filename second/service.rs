@@ -69,7 +69,7 @@ impl Answer {
     pub fn refused(refusal: Refusal) -> Answer {
         Answer {
             number: refusal.number,
-            place: refusal.place,
+            place: refusal.place as u16,
             ..Answer::default()
         }
     }

@@ -6,57 +6,7 @@
  * of the sure and of the possible table, bytes of the slip buffer or of the slip; then the bundle, and for a check the slip.
  * Lent memory is filled before each search, so that what stays can be told from what is written. */
 #include "portertrunk.h"
-
-extern long read(int file, void *buffer, unsigned long bytes);
-extern long write(int file, const void *buffer, unsigned long bytes);
-extern void *malloc(unsigned long bytes);
-extern void free(void *block);
-extern void exit(int status) __attribute__((noreturn));
-
-#define MOST_BYTES (1u << 20)
-
-static void stop(const char *words, unsigned long length) {
-    write(2, words, length);
-    exit(1);
-}
-
-#define STOP(words) stop(words, sizeof(words) - 1)
-
-/* Reads so many bytes; 0 where the input ended before the first, 1 otherwise. */
-static int fill(void *buffer, unsigned long bytes) {
-    unsigned long got = 0;
-    while (got < bytes) {
-        long more = read(0, (char *)buffer + got, bytes - got);
-        if (more < 0) STOP("harness: cannot read\n");
-        if (more == 0) {
-            if (got == 0) return 0;
-            STOP("harness: the cases end in the middle of one\n");
-        }
-        got += (unsigned long)more;
-    }
-    return 1;
-}
-
-static void put(const void *buffer, unsigned long bytes) {
-    unsigned long done = 0;
-    while (done < bytes) {
-        long more = write(1, (const char *)buffer + done, bytes - done);
-        if (more <= 0) STOP("harness: cannot write\n");
-        done += (unsigned long)more;
-    }
-}
-
-static uint32_t number(const uint8_t *at) {
-    return (uint32_t)at[0] | (uint32_t)at[1] << 8 | (uint32_t)at[2] << 16 | (uint32_t)at[3] << 24;
-}
-
-/* Memory of exactly so many bytes, so that the first byte past it is nobody's. */
-static void *take(unsigned long bytes) {
-    if (bytes > MOST_BYTES) STOP("harness: a case asks for more memory than any case may\n");
-    void *block = malloc(bytes == 0 ? 1 : bytes);
-    if (!block) STOP("harness: no memory\n");
-    return block;
-}
+#include "cases.h"
 
 static uint32_t *take_words(uint32_t words) {
     uint32_t *table = take((unsigned long)words * 4);
@@ -87,8 +37,7 @@ static void search_case(const uint8_t *head, const uint8_t *bundle, uint32_t bun
 
 static void check_case(const uint8_t *head, const uint8_t *bundle, uint32_t bundle_bytes) {
     uint32_t slip_bytes = number(head + 17);
-    uint8_t *slip = take(slip_bytes);
-    if (slip_bytes > 0 && !fill(slip, slip_bytes)) STOP("harness: a slip is missing\n");
+    uint8_t *slip = take_input(slip_bytes);
     uint64_t result = portertrunk_check(bundle, bundle_bytes, head[2], head[3], head[4], slip, slip_bytes);
     put(&result, 8);
     free(slip);
@@ -98,8 +47,7 @@ int main(void) {
     uint8_t head[21];
     while (fill(head, sizeof head)) {
         uint32_t bundle_bytes = number(head + 5);
-        uint8_t *bundle = take(bundle_bytes);
-        if (bundle_bytes > 0 && !fill(bundle, bundle_bytes)) STOP("harness: a bundle is missing\n");
+        uint8_t *bundle = take_input(bundle_bytes);
         if (head[0] == 0)
             search_case(head, bundle, bundle_bytes);
         else
