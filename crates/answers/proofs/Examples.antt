@@ -2,8 +2,8 @@
 use mathlib.Core.Path.{_≡_, refl}
 use mathlib.Core.List.{[], _∷_}
 use Rattle.answers.specs.declared.Answer.the-variants.{Yes, No, Unsure, Refused}
-use Rattle.answers.specs.Ascii.{ascii}
-use Rattle.answers.specs.Decimal.{decimal, digitsWithin}
+use Rattle.text.specs.Ascii.{ascii}
+use Rattle.text.specs.Decimal.{decimal, digitsWithin}
 use Rattle.answers.specs.Line.{acceptedLine, messageOf, lineOf}
 
 -- `YES 4`

@@ -11,14 +11,9 @@ use Rattle.rt0.specs.Completion as word
 use Rattle.answers.specs.declared.Answer.{Answer}
 use Rattle.answers.specs.declared.Answer.the-variants.{Yes, No, Unsure, Refused}
 use Rattle.answers.specs.declared.line.Text.{Text}
-use Rattle.answers.specs.Ascii.{ascii}
-use Rattle.answers.specs.Decimal.{decimal}
-
-abbrev pub space : List ℕ
-space = ascii " "
-
-abbrev pub newline : List ℕ
-newline = ascii "\n"
+use Rattle.text.specs.Ascii.{ascii}
+pub use Rattle.text.specs.Ascii.{space, newline}
+use Rattle.text.specs.Decimal.{decimal}
 
 abbrev pub YES : List ℕ
 YES = ascii "YES"

@@ -4,7 +4,7 @@ ghost use mathlib.Core.Path.{_≡_};
 ghost use mathlib.Core.List.{[], _∷_, _++_};
 ghost use Prim.Native.Nat.{_+_, _<_, _≤_};
 ghost use lib.ListN.{length};
-ghost use Rattle.answers.specs.Decimal.{decimal};
+ghost use Rattle.text.specs.Decimal.{decimal};
 ghost use Rattle.answers.specs.Line.{capacity, newline, refusalLine, acceptedLine, messageOf, lineOf, Holds, Extends};
 use crate::Answer;
 

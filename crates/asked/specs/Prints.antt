@@ -12,7 +12,7 @@ use Rattle.bundle.specs.declared.question.Question.{Question}
 use Rattle.bundle.specs.Rows.{readerRows}
 use Rattle.bundle.specs.Question.{roleAsked, questionRow}
 use Rattle.bundle.specs.Held.{holdingIn}
-use Rattle.answers.specs.Ascii.{ascii}
+use Rattle.text.specs.Ascii.{ascii}
 use Rattle.answers.specs.Line.{answerLine}
 use Rattle.said.specs.Line.{LineBy}
 use Rattle.asked.specs.Input.{bundleOf, questionOf}

@@ -5,7 +5,7 @@ use mathlib.Core.Path.{_≡_}
 use mathlib.Core.List.{List}
 use Rattle.bundle.specs.Layout.{entitiesOf, namesOf, recordsOf}
 use Rattle.bundle.specs.Rows.{readerRows}
-use Rattle.answers.specs.Ascii.{ascii}
+use Rattle.text.specs.Ascii.{ascii}
 use Rattle.answers.specs.Line.{acceptedLine}
 use Rattle.said.specs.Line.{LineBy}
 

@@ -1,7 +1,7 @@
 -- `answers::line::number`, which calls itself with the tenth of its number, meets its contract. The measure is the number.
 use native.Mathlib.Omega.{arith}
 use borrow.Author.Needs.{needs}
-use Rattle.answers.proofs.Decimal.{decimal-one, decimal-more, some-digits, digits-more}
+use Rattle.text.proofs.Decimal.{decimal-one, decimal-more, some-digits, digits-more}
 use Rattle.answers.proofs.Text.{extends-more}
 use Prim.Native.Nat.{ℕ, _<_}
 use borrow.Fn.Kinds.{In}

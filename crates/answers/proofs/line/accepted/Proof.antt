@@ -3,8 +3,8 @@ use native.Mathlib.Omega.{arith}
 use borrow.Author.Needs.{needs}
 use Prim.Native.Nat.{_≤_}
 use lib.ListN.{length}
-use Rattle.answers.specs.Decimal.{decimal}
-use Rattle.answers.proofs.Decimal.{five-digits}
+use Rattle.text.specs.Decimal.{decimal}
+use Rattle.text.proofs.Decimal.{five-digits}
 use Rattle.answers.proofs.line.accepted.Statement.{statement}
 use Rattle.answers.proofs.line.accepted.Tie as tie
 

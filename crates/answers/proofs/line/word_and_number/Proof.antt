@@ -1,7 +1,7 @@
 -- `answers::line::word_and_number` meets its contract.
 use native.Mathlib.Omega.{arith}
 use borrow.Author.Needs.{needs}
-use Rattle.answers.proofs.Decimal.{five-digits}
+use Rattle.text.proofs.Decimal.{five-digits}
 use Rattle.answers.proofs.line.word_and_number.Statement.{statement}
 use Rattle.answers.proofs.line.word_and_number.Tie as tie
 

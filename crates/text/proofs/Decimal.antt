@@ -11,7 +11,7 @@ use lib.ListN.{length, getD, length-append, List·getD-append}
 use lib.Dec.{ltb}
 use borrow.Author.Tests.{lt-ltb, le-ltb, ltb-true, ltb-false}
 use Rattle.rt0.specs.Credential.{_∈_}
-use Rattle.answers.specs.Decimal.{digitsWithin, decimal, readAfter, valueOf}
+use Rattle.text.specs.Decimal.{digitsWithin, decimal, readAfter, valueOf}
 
 -- any bound that is large enough gives the same digits
 same-digits : (j k n : ℕ) → n ≤ j → n ≤ k → digitsWithin j n ≡ digitsWithin k n
@@ -103,7 +103,7 @@ pub digits-more : (n : ℕ) → 10 ≤ n → length (decimal n) ≡ length (deci
 digits-more n p = rw (decimal-more n p, length-append)
 
 -- a number below 10 ^ (k + 1) has at most k + 1 digits
-few-digits : (n k : ℕ) → n < 10 ^ suc k → length (decimal n) ≤ suc k
+pub few-digits : (n k : ℕ) → n < 10 ^ suc k → length (decimal n) ≤ suc k
 few-digits = by-digits (λ n ds. (k : ℕ) → n < 10 ^ suc k → length ds ≤ suc k) (λ n p k h. omega arith) more
   where
     more : (n : ℕ) (ds : List ℕ) → 10 ≤ n → ((k : ℕ) → n / 10 < 10 ^ suc k → length ds ≤ suc k)

@@ -8,3 +8,9 @@ use mathlib.Core.List as list
 abbrev pub ascii : String → List ℕ
 ascii [] = list.[]
 ascii (character ∷ text) = list._∷_ (code character) (ascii text)
+
+abbrev pub space : List ℕ
+space = ascii " "
+
+abbrev pub newline : List ℕ
+newline = ascii "\n"
