@@ -27,7 +27,7 @@ pub asked : (input : List ℕ) (start d a r : ℕ) (before after : Lent) (o : Ou
     → Promise (bundleOf input) (questionOf input) before after o
 asked input start d a r before after o s e f g p =
     let same : question d a r ≡ questionOf input = cc in
-    subst₂ (λ (bytes : List ℕ) (q : Question). Promise bytes q before after o) (bundle-part input start s) same p
+    subst₂ (λ (bytes : List ℕ) (q : Question). Promise bytes q before after o) (bundle-part questionBytes input start s) same p
 
 -- the line of an outcome's numbers, by its verdict: 0 is a refusal
 abbrev lineBy : ℕ → Outcome → List ℕ

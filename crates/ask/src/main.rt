@@ -2,14 +2,13 @@
 //
 // Its buffer has room for the longest question. So input that is longer than the buffer is refused for its length, and never cut to a
 // question. Where standard input cannot be read to its end it prints no answer, but a message on standard error.
-ghost use mathlib.Core.Path.{_≡_};
-ghost use Prim.Native.Nat.{_≤_, min};
+ghost use Prim.Native.Nat.{_≤_};
 ghost use lib.ListN.{length};
 ghost use Rattle.answers.specs.Answer.{outcomeOf};
 ghost use Rattle.search.specs.Promise.{Promise, lent};
 ghost use Rattle.search.specs.Enough.{Enough};
 ghost use Rattle.said.specs.Said.{HoldsAllowed, Read, Rightly};
-ghost use Rattle.asked.specs.Input.{questionBytes, longestInput, bundleOf, questionOf};
+ghost use Rattle.asked.specs.Input.{longestInput, bundleOf, questionOf};
 ghost use Rattle.asked.specs.Prints.{Prints, unreadable};
 use answers::Answer;
 use answers::line::Text;
@@ -17,6 +16,7 @@ use answers::line::empty;
 use answers::line::line;
 use answers::line::message;
 use answers::line::refusal;
+use asked::bundle_start;
 use base::byte;
 use input::Input;
 use input::fill;
@@ -43,17 +43,6 @@ impl Memory {
     const BUFFER: usize = 4096;
 }
 
-// Where the bundle starts: behind three bytes, or at the end where there are fewer.
-fn bundle_start(size: usize) -> usize
-    ensures { λ r. ⌜ (r ≡ min questionBytes size) × (r ≤ size) ⌝ }
-{
-    if size < Question::BYTES {
-        size
-    } else {
-        Question::BYTES
-    }
-}
-
 // The answer to the bytes of a question: the person, the entity, the role name, then the bundle.
 fn ask(input: &[u8], sure: &mut [u32], possible: &mut [u32], slip: &mut [u8]) -> Answer
     ensures { λ w. ⌜ Promise (bundleOf (now (input .entry))) (questionOf (now (input .entry)))
@@ -63,7 +52,7 @@ fn ask(input: &[u8], sure: &mut [u32], possible: &mut [u32], slip: &mut [u8]) ->
     let d = byte(input, 0) as u8;
     let a = byte(input, 1) as u8;
     let r = byte(input, 2) as u8;
-    let start = bundle_start(input.len());
+    let start = bundle_start(Question::BYTES, input.len());
     search(&input[start..], d, a, r, sure, possible, slip)
 }
 

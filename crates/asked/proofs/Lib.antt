@@ -1,4 +1,4 @@
--- The laws that the program `ask` cites. Input: the part of the input behind the question is the bundle. Prints: which line an input has, and
+-- The laws that the programs cite that ask, and those of `ask`. Input: the part of the input behind the question is the bundle. Prints: which line an input has, and
 -- that it has only one.
 pub mod Input
 pub mod Prints

@@ -1,11 +1,10 @@
--- The bytes of standard input: D, A, r, and then a bundle. With fewer than three bytes the bundle is empty.
-use Prim.Native.Nat.{ℕ, _+_}
+-- The bytes of standard input for `ask`: D, A, r, and then a bundle.
+use Prim.Native.Nat.{ℕ}
 use mathlib.Core.List.{List}
-use lib.ListN.{drop}
 use Rattle.base.specs.Byte.{byteAt}
 use Rattle.bundle.specs.declared.question.Question.{Question}
-use Rattle.bundle.specs.Layout.{longestBundle}
 use Rattle.bundle.specs.Question.{question}
+use Rattle.asked.specs.Behind.{bundleBehind, longestBehind}
 
 -- the bytes of a question before its bundle
 abbrev pub questionBytes : ℕ
@@ -13,10 +12,10 @@ questionBytes = 3
 
 -- the bytes of the longest question
 abbrev pub longestInput : ℕ
-longestInput = questionBytes + longestBundle
+longestInput = longestBehind questionBytes
 
 abbrev pub bundleOf : List ℕ → List ℕ
-bundleOf input = drop questionBytes input
+bundleOf input = bundleBehind questionBytes input
 
 abbrev pub questionOf : List ℕ → Question
 questionOf input = question (byteAt input 0) (byteAt input 1) (byteAt input 2)

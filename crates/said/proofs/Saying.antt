@@ -2,7 +2,7 @@
 -- is said is two texts, of which `write_text` writes the bytes that they hold.
 use Prim.Native.Nat.{ℕ, _<_, _≤_}
 use native.Mathlib.Omega.{arith}
-use mathlib.Core.Path.{_≡_}
+use mathlib.Core.Path.{_≡_, refl}
 use mathlib.Core.List.{List, []}
 use lib.ListN.{length, take}
 use lib.IntN.{ℤ}
@@ -12,24 +12,45 @@ use Rattle.answers.proofs.Text.{one-text}
 use Rattle.input.specs.declared.Input.{Input}
 use Rattle.input.specs.declared.Input.the-variants.{Whole, Longer, Failed}
 use Rattle.said.specs.declared.Said.{Said}
-use Rattle.said.specs.Said.{shownBy, HoldsAllowed, Rightly}
+use Rattle.said.specs.Said.{shownBy, HoldsAllowed, PrintsLonger, RightlyBy, Rightly}
 
-module _ (Prints : List ℕ → List ℕ → Type 0) (unreadable : List ℕ) (got : Input) (buffer : List ℕ) (said : Said) where
+-- whatever holds the output
+module _ (Shows : (List ℕ → Type 0) → Type 0) (problem : Text) (Prints : List ℕ → List ℕ → Type 0) (unreadable : List ℕ) (got : Input) (buffer : List ℕ) where
   -- the whole input
+  pub by-whole : (n : ℕ) → got ≡ Whole n → Shows (Prints (take n buffer)) → Holds problem [] → RightlyBy Shows problem Prints unreadable got buffer
+  by-whole n e out said = rw e (out, said)
+
+  -- an input longer than the buffer
+  pub by-longer : got ≡ Longer → Shows (PrintsLonger Prints buffer) → Holds problem [] → RightlyBy Shows problem Prints unreadable got buffer
+  by-longer e out said = rw e (out, said)
+
+  -- a read that failed
+  pub by-failed : {answer : ℤ} → got ≡ Failed answer → Shows (λ shown. shown ≡ []) → Holds problem unreadable
+      → RightlyBy Shows problem Prints unreadable got buffer
+  by-failed e out said = rw e (out, said)
+
+-- every input longer than some bound may have this line, and the buffer is no shorter than that
+pub prints-every-longer : (Prints : List ℕ → List ℕ → Type 0) (buffer : List ℕ) (longest : ℕ) (line : List ℕ)
+    → ((input : List ℕ) → longest < length input → Prints input line) → longest ≤ length buffer → PrintsLonger Prints buffer line
+prints-every-longer Prints buffer longest line prints room input longer = prints input (omega arith)
+
+-- where a text holds the output
+module _ (Prints : List ℕ → List ℕ → Type 0) (unreadable : List ℕ) (got : Input) (buffer : List ℕ) (said : Said) where
   pub said-whole : (n : ℕ) → got ≡ Whole n → HoldsAllowed (Prints (take n buffer)) (said .out) → Holds (said .problem) []
       → Rightly Prints unreadable got buffer said
-  said-whole n e out problem = rw e (out, problem)
+  said-whole n e out problem = by-whole (λ Allowed. HoldsAllowed Allowed (said .out)) (said .problem) Prints unreadable got buffer n e out problem
 
-  -- an input longer than the buffer: every input longer than some bound may have this line, and the buffer is no shorter than that
   pub said-longer : (longest : ℕ) (line : List ℕ) → ((input : List ℕ) → longest < length input → Prints input line) → longest ≤ length buffer
       → got ≡ Longer → Holds (said .out) line → Holds (said .problem) [] → Rightly Prints unreadable got buffer said
   said-longer longest line prints room e out problem =
-      rw e (record { shown = line; holds = out; allowed = λ input longer. prints input (omega arith) }, problem)
+      by-longer (λ Allowed. HoldsAllowed Allowed (said .out)) (said .problem) Prints unreadable got buffer e
+      (record { shown = line; holds = out; allowed = prints-every-longer Prints buffer longest line prints room }) problem
 
-  -- a read that failed
   pub said-failed : {answer : ℤ} → got ≡ Failed answer → Holds (said .out) [] → Holds (said .problem) unreadable
       → Rightly Prints unreadable got buffer said
-  said-failed e out problem = rw e (out, problem)
+  said-failed e out problem =
+      by-failed (λ Allowed. HoldsAllowed Allowed (said .out)) (said .problem) Prints unreadable got buffer e
+      (record { shown = []; holds = out; allowed = refl }) problem
 
 -- what is rightly said is two texts
 module _ (Prints : List ℕ → List ℕ → Type 0) (unreadable : List ℕ) where
@@ -37,7 +58,7 @@ module _ (Prints : List ℕ → List ℕ → Type 0) (unreadable : List ℕ) whe
       → (shown : List ℕ) × Holds (said .out) shown
   out-shown (Whole n) buffer said r = (_, r .0 .holds)
   out-shown Longer buffer said r = (_, r .0 .holds)
-  out-shown (Failed answer) buffer said r = (_, r .0)
+  out-shown (Failed answer) buffer said r = (_, r .0 .holds)
 
   pub problem-shown : (got : Input) (buffer : List ℕ) (said : Said) → Rightly Prints unreadable got buffer said
       → (shown : List ℕ) × Holds (said .problem) shown

@@ -1,6 +1,7 @@
 -- What a program rightly says of a buffer that standard input was read into: a text for standard output and one for standard error. It is
 -- said once for every program: which bytes may be printed for an input, and the message where it cannot be read, are parameters.
 use Prim.Native.Nat.{ℕ, _<_}
+use mathlib.Core.Path.{_≡_}
 use mathlib.Core.List.{List, []}
 use lib.ListN.{length, take}
 use Rattle.answers.specs.declared.line.Text.{Text}
@@ -28,9 +29,14 @@ Read got buffer = (before : List ℕ) × Filled before buffer got
 abbrev pub PrintsLonger : (List ℕ → List ℕ → Type 0) → List ℕ → List ℕ → Type 0
 PrintsLonger Prints buffer shown = (input : List ℕ) → length buffer < length input → Prints input shown
 
--- What is rightly said of the buffer. The whole input: bytes that may be printed for it. An input longer than the buffer: bytes that may be
--- printed for every such input. A read failed: no output, and the message.
+-- What is rightly said of the buffer, whatever holds the output: Shows says of bytes that may be printed that it holds such bytes. The whole
+-- input: bytes that may be printed for it. An input longer than the buffer: bytes that may be printed for every such input. A read failed: no
+-- output, and the message.
+abbrev pub RightlyBy : ((List ℕ → Type 0) → Type 0) → Text → (List ℕ → List ℕ → Type 0) → List ℕ → Input → List ℕ → Type 0
+RightlyBy Shows problem Prints unreadable (Whole n) buffer = Shows (Prints (take n buffer)) × Holds problem []
+RightlyBy Shows problem Prints unreadable Longer buffer = Shows (PrintsLonger Prints buffer) × Holds problem []
+RightlyBy Shows problem Prints unreadable (Failed answer) buffer = Shows (λ shown. shown ≡ []) × Holds problem unreadable
+
+-- .. where a text holds it
 abbrev pub Rightly : (List ℕ → List ℕ → Type 0) → List ℕ → Input → List ℕ → Said → Type 0
-Rightly Prints unreadable (Whole n) buffer said = HoldsAllowed (Prints (take n buffer)) (said .out) × Holds (said .problem) []
-Rightly Prints unreadable Longer buffer said = HoldsAllowed (PrintsLonger Prints buffer) (said .out) × Holds (said .problem) []
-Rightly Prints unreadable (Failed answer) buffer said = Holds (said .out) [] × Holds (said .problem) unreadable
+Rightly Prints unreadable got buffer said = RightlyBy (λ Allowed. HoldsAllowed Allowed (said .out)) (said .problem) Prints unreadable got buffer

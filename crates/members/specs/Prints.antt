@@ -1,0 +1,27 @@
+-- What the program `members` prints for an input, by its table of refusals: `REFUSED number place` for the refusal that is due, or, where no
+-- row applies, the text of the right list. The table has no row about memory: the program brings its own. That no input has two texts is in
+-- proofs/Prints.antt.
+use Prim.Native.Nat.{ℕ}
+use mathlib.Core.List.{List, [], _∷_, _++_}
+use Rattle.text.specs.Ascii.{ascii}
+use Rattle.base.specs.Refusals.{Row}
+use Rattle.bundle.specs.Rows.{readerRows}
+use Rattle.bundle.specs.Held.{holdingIn}
+use Rattle.said.specs.Line.{LineBy}
+use Rattle.lines.specs.Text.{personText}
+use Rattle.lists.specs.Asked.{RightMembers}
+use Rattle.lists.specs.Promise.{roleRow}
+use Rattle.listed.specs.Given.{GivenText}
+use Rattle.members.specs.Input.{bundleOf, roleOf}
+
+-- the reader's rows, then that of the role
+abbrev pub membersRows : List ℕ → List Row
+membersRows input = readerRows (bundleOf input) ++ (roleRow (bundleOf input) (roleOf input) ∷ [])
+
+-- what may be printed for an input
+abbrev pub Prints : List ℕ → List ℕ → Type 0
+Prints input = LineBy (membersRows input) (GivenText (RightMembers (holdingIn (bundleOf input)) (roleOf input)) personText)
+
+-- the message where standard input cannot be read
+abbrev pub unreadable : List ℕ
+unreadable = ascii "members: standard input cannot be read to its end\n"
