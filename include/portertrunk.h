@@ -1,6 +1,6 @@
 /* Portertrunk for C programs: is this person entitled? And bundles written and appended to.
  *
- * Four functions, proved for every input: any bytes at all may be lent, and each call returns. Link
+ * Five functions, proved for every input: any bytes at all may be lent, and each call returns. Link
  * target/staticlib/libcapi.a, which `rt staticlib capi` writes (x86-64, System V calling convention).
  *
  * A slice is passed as a pointer and the number of its elements. Where that number is 0 the pointer
@@ -8,17 +8,17 @@
  *
  * Nothing is asked of what the memory holds. What a C caller must keep is what the proof's own language
  * guarantees of every slice: that many elements stand at the pointer, and may be read; the tables are
- * aligned to 4 bytes; memory that is lent for writing (sure, possible, slip of the search; bundle of write
- * and append) may be written, overlaps no other memory of the same call, and no other thread touches it
+ * aligned to 4 bytes; memory that is lent for writing (sure, possible, slip of the search and the tables;
+ * bundle of write and append) may be written, overlaps no other memory of the same call, and no other thread touches it
  * meanwhile. So neither the list of records nor the record that is appended may stand in the bundle's buffer.
  *
  * A question is three numbers: is the person d a member of the role r of the entity a?
  *
- * The result of the search and of the check holds five numbers:
+ * The result of the search, of the tables and of the check holds five numbers:
  *
  *     bits 56 to 63  number   0, or the number of a refusal
  *     bits 40 to 55  place    0, or where the refusal was found
- *     bits 32 to 39  verdict  1 YES, 2 NO, 3 UNSURE; 0 with a refusal, and from the check
+ *     bits 32 to 39  verdict  1 YES, 2 NO, 3 UNSURE; 0 with a refusal, and from tables and check
  *     bits 16 to 31  rounds   the number of rounds over the credentials held; 0 with a refusal, and from the check
  *     bits  0 to 15  lines    the lines of the slip written or accepted; 0 otherwise
  *
@@ -49,8 +49,8 @@
  *     63  an entity of a record is 0 or above the number of entities; place: the record
  *     64  a role name of a record is 0 or above the number of names; place: the record
  *     65  a byte of a record that its form does not use is not zero; place: the record
- *      7  the question names an entity or a role name that the bundle does not have, or 0; place 0
- *      8  a lent table has fewer than 512 words, or the slip buffer fewer than 61,440 bytes (search only); place 0
+ *      7  the question names an entity or a role name that the bundle does not have, or 0 (search and check); place 0
+ *      8  a lent table has fewer than 512 words (search and tables), or the slip buffer fewer than 61,440 bytes (search only); place 0
  *      9  the slip's length is 0, above 61,440 or no multiple of 8 (check only); place 0
  *     10  a line of the slip is not right: its credential, a premise, or what the premises state (check only); place: the line, from 1
  *     11  every line is right, and the last states another fact than the question's (check only); place 0
@@ -88,6 +88,11 @@ extern "C" {
 uint64_t portertrunk_search(const uint8_t *bundle, size_t bundle_bytes, uint8_t d, uint8_t a, uint8_t r,
                             uint32_t *sure, size_t sure_words, uint32_t *possible, size_t possible_words,
                             uint8_t *slip, size_t slip_bytes);
+
+/* Fills the two tables, without a question: `sure` and `possible` as the search leaves them, words from 512 on stay. The result
+ * has the number of rounds, with verdict and lines 0. A refused call (1 to 5, 61 to 65, 8) leaves every lent word as it was. */
+uint64_t portertrunk_tables(const uint8_t *bundle, size_t bundle_bytes, uint32_t *sure, size_t sure_words,
+                            uint32_t *possible, size_t possible_words);
 
 /* Checks a slip from anyone, and writes nothing. Accepted, number 0 and the number of lines, exactly if
  * the slip shows that the person is a member by the credentials in the bundle. */

@@ -1,8 +1,9 @@
-// The library for C: the search, the check and the writer under plain names, each with one packed number as its answer.
+// The library for C: the search, the tables, the check and the writer under plain names, each with one packed number as its answer.
 // include/portertrunk.h says in words what is lent and what comes back.
 ghost use Rattle.bundle.specs.Question.{question};
 ghost use Rattle.search.specs.Promise.{lent};
-ghost use Rattle.capi.specs.Packed.{PackedPromise, PackedCheck};
+ghost use Rattle.tables.specs.Promise.{tables};
+ghost use Rattle.capi.specs.Packed.{PackedPromise, PackedTables, PackedCheck};
 ghost use Rattle.capi.specs.Written.{PackedWrite, PackedAppend};
 use crate::pack::pack_wrote;
 use answers::pack::pack;
@@ -10,6 +11,8 @@ use answers::pack::pack_answer;
 use checker::check::Checked;
 use checker::check::check;
 use search::search;
+use tables::Filled;
+use tables::fill;
 use writer::append::append;
 use writer::write::write;
 
@@ -31,6 +34,19 @@ pub extern "C" fn portertrunk_search(
         (lent (now (sure .exit)) (now (possible .exit)) (now (slip .exit))) w ⌝ }
 {
     pack_answer(search(bundle, d, a, r, sure, possible, slip))
+}
+
+// The packed answer of the tables.
+#[no_mangle]
+pub extern "C" fn portertrunk_tables(bundle: &[u8], sure: &mut [u32], possible: &mut [u32]) -> u64
+    ensures { λ w. ⌜ PackedTables (now (bundle .entry)) (tables (now (sure .entry)) (now (possible .entry)))
+        (tables (now (sure .exit)) (now (possible .exit))) w ⌝ }
+{
+    let filled = fill(bundle, sure, possible);
+    match filled {
+        Filled::Rounds { sizes: _, rounds } => pack(0, 0, 0, rounds, 0),
+        Filled::Refused { number, place } => pack(number, place, 0, 0, 0),
+    }
 }
 
 // The packed answer of the check.
