@@ -1,0 +1,2 @@
+-- What the contracts of the benchmark's functions cite.
+pub mod Given
