@@ -1,13 +1,9 @@
-//! The case generator: groups of cases, and the order they are drawn in.
-//!
-//! Each group has a name, a weight and a function that makes one case from a
-//! generator and a turn number. Turns count up within the group, so that a
-//! group can go through a list of variants instead of leaving them to chance.
-//! The same seed and count always give the same file.
+//! Cases for the search and the checker, group by group.
 
 use crate::damage;
 use crate::exchange::{Case, Task};
 use crate::forge::{self, Ground};
+use crate::groups::{group, Group};
 use crate::house;
 use crate::membership::{fact, possible_table, sure_walk, Fact};
 use crate::random::Random;
@@ -15,23 +11,8 @@ use crate::reader::{read_bundle, Bundle};
 use crate::service::{Lent, Question};
 use crate::shape::{self, Draft};
 use crate::slip::{bytes_of, lines_of, Line};
-use std::fs::File;
-use std::io::{self, BufWriter, Write};
 
-type Maker = fn(&mut Random, usize) -> Case;
-
-pub struct Group {
-    pub name: &'static str,
-    weight: usize,
-    make: Maker,
-}
-
-const fn group(name: &'static str, weight: usize, make: Maker) -> Group {
-    Group { name, weight, make }
-}
-
-/// All groups; the group byte of a case is the place in this list.
-pub const GROUPS: [Group; 36] = [
+pub const GROUPS: [Group<Case>; 36] = [
     group("small-bundles", 4, small_bundles),
     group("grown-bundles", 4, grown_bundles),
     group("every-number-of-records", 4, every_number_of_records),
@@ -69,31 +50,6 @@ pub const GROUPS: [Group; 36] = [
     group("slips-on-damaged-bundles", 2, slips_on_damaged_bundles),
     group("slips-of-the-house", 1, slips_of_the_house),
 ];
-
-/// Writes so many cases to a file.
-pub fn draw(seed: u64, count: usize, path: &str) -> io::Result<()> {
-    let mut file = BufWriter::new(File::create(path)?);
-    for number in 0..count {
-        draw_case(seed, number).write(&mut file)?;
-    }
-    file.flush()
-}
-
-/// The case of this number (from 0) under a seed.
-fn draw_case(seed: u64, number: usize) -> Case {
-    let cycle: usize = GROUPS.iter().map(|group| group.weight).sum();
-    let mut place = number % cycle;
-    let mut chosen = 0;
-    while place >= GROUPS[chosen].weight {
-        place -= GROUPS[chosen].weight;
-        chosen += 1;
-    }
-    let turn = number / cycle * GROUPS[chosen].weight + place;
-    let mut random = Random::for_case(seed, number as u64);
-    let mut case = (GROUPS[chosen].make)(&mut random, turn);
-    case.group = chosen as u8;
-    case
-}
 
 /// Lent memory that is long enough, at times longer than needed.
 fn enough_lent(random: &mut Random) -> Lent {

@@ -10,6 +10,7 @@
 //! Before a search the tables are filled with one word and the buffer with one
 //! byte, so that memory which must stay can be told from memory written.
 
+use crate::comparison::first_byte;
 use crate::membership::Table;
 use crate::service::{check, search, Lent, Question, TABLE_WORDS};
 use std::io::{self, Read, Write};
@@ -58,11 +59,6 @@ impl Case {
         }
     }
 
-    /// The bytes of bundle and slip together.
-    pub fn size(&self) -> usize {
-        self.bundle.len() + self.slip().len()
-    }
-
     pub fn write(&self, file: &mut impl Write) -> io::Result<()> {
         let (kind, lent) = match &self.task {
             Task::Search(lent) => (0, *lent),
@@ -87,9 +83,7 @@ impl Case {
 
     /// The next case of a file, or nothing at its end.
     pub fn read(file: &mut impl Read) -> io::Result<Option<Case>> {
-        let mut first = Vec::new();
-        file.take(1).read_to_end(&mut first)?;
-        let [kind] = first[..] else {
+        let Some(kind) = first_byte(file)? else {
             return Ok(None);
         };
         let letters = read_bytes(file, 4)?;

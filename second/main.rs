@@ -4,7 +4,8 @@
 //! that one keeps tables of words, this one keeps sets of facts. Its purpose is
 //! to agree or disagree with it on many inputs, valid and damaged.
 //!
-//! Commands:
+//! Commands, each of the first four with the kind of cases behind it:
+//! `draw` for searches and checks, `draw-writes` for the writer.
 //!   draw SEED COUNT FILE     write that many cases to a file
 //!   compare CASES ANSWERS    compare answers with this program's own
 //!   answer CASES ANSWERS     write this program's own answers
@@ -12,14 +13,14 @@
 //!   ask                      answer a question from standard input
 //!   house DIRECTORY          write the named bundles as files
 //!   figures                  try the figures of the specification
-//!   draw-writes, compare-writes, answer-writes
-//!                            the same for the writer's cases
 
+mod comparison;
 mod damage;
 mod draw;
 mod exchange;
 mod figures;
 mod forge;
+mod groups;
 mod house;
 mod membership;
 mod mistake;
@@ -35,13 +36,16 @@ mod writer_exchange;
 mod writer_figures;
 mod writer_run;
 
+use comparison::Exchange;
+use exchange::Case;
 use std::env;
 use std::io::{self, Read};
 use std::process::ExitCode;
+use writer_exchange::WriterCase;
 
-const USAGE: &str = "usage: second draw SEED COUNT FILE | compare CASES ANSWERS | \
-    answer CASES ANSWERS | survey CASES | ask | house DIRECTORY | figures | \
-    draw-writes SEED COUNT FILE | compare-writes CASES ANSWERS | answer-writes CASES ANSWERS";
+const USAGE: &str = "usage: second draw[-KIND] SEED COUNT FILE | compare[-KIND] CASES ANSWERS | \
+    answer[-KIND] CASES ANSWERS | survey[-KIND] CASES | ask | house DIRECTORY | figures; \
+    KIND is writes";
 
 fn main() -> ExitCode {
     let words: Vec<String> = env::args().skip(1).collect();
@@ -59,18 +63,28 @@ fn main() -> ExitCode {
 /// Does what a command says; false when something came out wrong.
 fn obey(words: &[&str]) -> io::Result<bool> {
     match words {
-        ["draw", seed, count, file] => draw::draw(number(seed)?, number(count)?, file)?,
-        ["draw-writes", seed, count, file] => {
-            writer_draw::draw_writes(number(seed)?, number(count)?, file)?
-        }
-        ["compare-writes", cases, answers] => return writer_run::compare_writes(cases, answers),
-        ["answer-writes", cases, answers] => writer_run::answer_writes(cases, answers)?,
-        ["compare", cases, answers] => return run::compare(cases, answers),
-        ["answer", cases, answers] => run::answer(cases, answers)?,
-        ["survey", cases] => run::survey(cases)?,
         ["ask"] => ask_input()?,
         ["house", directory] => house::write_files(directory)?,
         ["figures"] => return Ok(figures::try_figures()),
+        [command, rest @ ..] => match command.split_once('-') {
+            None => return obey_with_cases::<Case>(command, rest),
+            Some((command, "writes")) => return obey_with_cases::<WriterCase>(command, rest),
+            _ => return Err(io::Error::other(USAGE)),
+        },
+        _ => return Err(io::Error::other(USAGE)),
+    }
+    Ok(true)
+}
+
+/// Does what a command says with cases of one kind.
+fn obey_with_cases<C: Exchange>(command: &str, words: &[&str]) -> io::Result<bool> {
+    match (command, words) {
+        ("draw", [seed, count, file]) => {
+            comparison::draw::<C>(number(seed)?, number(count)?, file)?
+        }
+        ("compare", [cases, answers]) => return comparison::compare::<C>(cases, answers),
+        ("answer", [cases, answers]) => comparison::answer::<C>(cases, answers)?,
+        ("survey", [cases]) => comparison::survey::<C>(cases)?,
         _ => return Err(io::Error::other(USAGE)),
     }
     Ok(true)

@@ -1,13 +1,10 @@
-//! Cases for the writer: groups of cases, and the order they are drawn in.
-//!
-//! As in `draw.rs` each group has a name, a weight and a function that makes
-//! one case from a generator and a turn number, and the same seed and count
-//! always give the same file. Turns go through the telling numbers of records,
-//! lengths of buffers and ways to be wrong.
+//! Cases for the writer, group by group. Turns go through the telling numbers
+//! of records, lengths of buffers and ways to be wrong.
 
 use crate::damage::{self, chosen_mistakes, mistaken_record, MISTAKES};
 use crate::exchange::FILL_BYTE;
 use crate::forge::{self, Ground};
+use crate::groups::{group, Group};
 use crate::membership::fact;
 use crate::random::Random;
 use crate::reader::{read_record, Body, BLOCK, LONGEST_BUNDLE, MOST_ENTITIES, RECORD};
@@ -16,23 +13,8 @@ use crate::shape::{self, Draft, Record};
 use crate::slip::{bytes_of, Line};
 use crate::writer::{length_with, Content};
 use crate::writer_exchange::{Addition, Call, WriterCase};
-use std::fs::File;
-use std::io::{self, BufWriter, Write};
 
-type Maker = fn(&mut Random, usize) -> WriterCase;
-
-pub struct WriterGroup {
-    pub name: &'static str,
-    weight: usize,
-    make: Maker,
-}
-
-const fn group(name: &'static str, weight: usize, make: Maker) -> WriterGroup {
-    WriterGroup { name, weight, make }
-}
-
-/// All groups; the group byte of a case is the place in this list.
-pub const WRITER_GROUPS: [WriterGroup; 18] = [
+pub const WRITER_GROUPS: [Group<WriterCase>; 18] = [
     group("written-lists", 6, written_lists),
     group("buffers-too-short", 4, buffers_too_short),
     group("lists-too-long", 3, lists_too_long),
@@ -52,31 +34,6 @@ pub const WRITER_GROUPS: [WriterGroup; 18] = [
     group("slips-around-appends", 5, slips_around_appends),
     group("slips-by-the-new-record", 2, slips_by_the_new_record),
 ];
-
-/// Writes so many cases to a file.
-pub fn draw_writes(seed: u64, count: usize, path: &str) -> io::Result<()> {
-    let mut file = BufWriter::new(File::create(path)?);
-    for number in 0..count {
-        draw_case(seed, number).write(&mut file)?;
-    }
-    file.flush()
-}
-
-/// The case of this number (from 0) under a seed.
-fn draw_case(seed: u64, number: usize) -> WriterCase {
-    let cycle: usize = WRITER_GROUPS.iter().map(|group| group.weight).sum();
-    let mut place = number % cycle;
-    let mut chosen = 0;
-    while place >= WRITER_GROUPS[chosen].weight {
-        place -= WRITER_GROUPS[chosen].weight;
-        chosen += 1;
-    }
-    let turn = number / cycle * WRITER_GROUPS[chosen].weight + place;
-    let mut random = Random::for_case(seed, number as u64);
-    let mut case = (WRITER_GROUPS[chosen].make)(&mut random, turn);
-    case.group = chosen as u8;
-    case
-}
 
 /// Numbers of records that fit, around the places where a block fills up.
 const FITTING: [usize; 9] = [0, 1, 39, 40, 41, 80, 200, 239, 240];

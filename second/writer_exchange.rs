@@ -22,6 +22,7 @@
 //! An answer: eight bytes with the result, low byte first, of a chain with the
 //! last result; for 5 the three results in turn; then the buffer, whole.
 
+use crate::comparison::first_byte;
 use crate::exchange::{read_bytes, read_number};
 use crate::reader::RECORD;
 use crate::service::{check, Question};
@@ -58,16 +59,6 @@ impl WriterCase {
             buffer,
             call,
         }
-    }
-
-    /// The number of bytes that the case hands over.
-    pub fn size(&self) -> usize {
-        let handed = match &self.call {
-            Call::Write(content) | Call::Chain(content, _) => content.records.len(),
-            Call::Append(addition) => addition.record.len(),
-            Call::Slip(_, addition, slip) => addition.record.len() + slip.len(),
-        };
-        self.buffer.len() + handed
     }
 
     /// How many results a call brings back.
@@ -107,9 +98,7 @@ impl WriterCase {
 
     /// The next case of a file, or nothing at its end.
     pub fn read(file: &mut impl Read) -> io::Result<Option<WriterCase>> {
-        let mut first = Vec::new();
-        file.take(1).read_to_end(&mut first)?;
-        let [kind] = first[..] else {
+        let Some(kind) = first_byte(file)? else {
             return Ok(None);
         };
         let letters = read_bytes(file, 4)?;

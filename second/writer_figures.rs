@@ -85,7 +85,7 @@ fn try_refused_lists(tally: &mut Tally) {
         ),
         (
             "a byte less",
-            |content| drop(content.records.pop()),
+            |content| content.records.truncate(71),
             1_024,
             1,
             0,
@@ -111,7 +111,13 @@ fn try_refused_lists(tally: &mut Tally) {
             3,
             0,
         ),
-        ("31 marks", |content| drop(content.marks.pop()), 1_024, 3, 0),
+        (
+            "31 marks",
+            |content| content.marks.truncate(31),
+            1_024,
+            3,
+            0,
+        ),
         ("33 marks", |content| content.marks.push(0), 1_024, 3, 0),
         ("no marks", |content| content.marks.clear(), 1_024, 3, 0),
         ("form 0", |content| content.records[0] = 0, 1_024, 61, 1),

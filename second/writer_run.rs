@@ -4,87 +4,114 @@
 //! the one that came: every result, and every byte of the buffer, whether
 //! written or not. Nothing is left open.
 
-use crate::run::{agree_items, hex, Outcomes};
+use crate::comparison::{agree_items, hex, Exchange};
+use crate::groups::Group;
 use crate::service::Answer;
-use crate::writer::unpacked;
+use crate::writer::{unpacked, Content};
 use crate::writer_draw::WRITER_GROUPS;
-use crate::writer_exchange::{own_writer_answer, Call, WriterCame, WriterCase};
-use std::fs::File;
-use std::io::{self, BufReader, BufWriter, Read, Write};
+use crate::writer_exchange::{own_writer_answer, Addition, Call, WriterCame, WriterCase};
+use std::io::{self, Read, Write};
 
-/// A case on which the two programs differ, and in what.
-struct Disagreement {
-    number: usize,
-    case: WriterCase,
-    difference: String,
-}
+impl Exchange for WriterCase {
+    type Came = WriterCame;
+    const GROUPS: &'static [Group<WriterCase>] = &WRITER_GROUPS;
 
-/// Compares a file of cases with a file of answers; true when all agree.
-pub fn compare_writes(cases_path: &str, answers_path: &str) -> io::Result<bool> {
-    let mut cases = BufReader::new(File::open(cases_path)?);
-    let mut answers = BufReader::new(File::open(answers_path)?);
-    let mut counts = vec![0; WRITER_GROUPS.len()];
-    let mut outcomes = Outcomes::default();
-    let mut disagreements: Vec<Disagreement> = Vec::new();
-    let mut number = 0;
-    while let Some(case) = WriterCase::read(&mut cases)? {
-        let Ok(came) = WriterCame::read(&mut answers, &case) else {
-            println!("disagree: the file of answers ends in the answer to case {number}");
-            return Ok(false);
+    fn group(&self) -> u8 {
+        self.group
+    }
+
+    fn set_group(&mut self, group: u8) {
+        self.group = group;
+    }
+
+    fn size(&self) -> usize {
+        let handed = match &self.call {
+            Call::Write(content) | Call::Chain(content, _) => content.records.len(),
+            Call::Append(addition) => addition.record.len(),
+            Call::Slip(_, addition, slip) => addition.record.len() + slip.len(),
         };
-        counts[usize::from(case.group)] += 1;
-        let expected = own_writer_answer(&case);
-        note(&mut outcomes, &case.call, &expected.results);
-        if let Err(difference) = agree(&expected, &came) {
-            disagreements.push(Disagreement {
-                number,
-                case,
-                difference,
-            });
-        }
-        number += 1;
+        self.buffer.len() + handed
     }
-    if answers.bytes().next().is_some() {
-        println!("disagree: the file of answers goes on after the last case");
-        return Ok(false);
+
+    fn write(&self, file: &mut impl Write) -> io::Result<()> {
+        WriterCase::write(self, file)
     }
-    let all_agree = disagreements.is_empty();
-    report(&counts, &outcomes, disagreements);
-    Ok(all_agree)
+
+    fn read(file: &mut impl Read) -> io::Result<Option<WriterCase>> {
+        WriterCase::read(file)
+    }
+
+    fn write_answer(came: &WriterCame, file: &mut impl Write) -> io::Result<()> {
+        came.write(file)
+    }
+
+    fn read_answer(&self, file: &mut impl Read) -> io::Result<WriterCame> {
+        WriterCame::read(file, self)
+    }
+
+    fn own_answer(&self) -> WriterCame {
+        own_writer_answer(self)
+    }
+
+    fn agree(&self, expected: &WriterCame, came: &WriterCame) -> Result<(), String> {
+        agree(expected, came)
+    }
+
+    /// What the call gave, the calls apart from each other.
+    fn outcome(&self, expected: &WriterCame) -> (String, usize) {
+        let results = &expected.results;
+        let kind = match &self.call {
+            Call::Write(_) => "write",
+            Call::Append(_) => "append",
+            Call::Chain(..) => "chain",
+            Call::Slip(..) => {
+                let before = checked(results[0]);
+                let after = checked(results[2]);
+                let (appended, place) = written(results[1]);
+                return (format!("slip {before}, {appended}, then {after}"), place);
+            }
+        };
+        let (words, place) = written(results[0]);
+        (format!("{kind} {words}"), place)
+    }
+
+    fn describe(&self) -> String {
+        let call = match &self.call {
+            Call::Write(content) => format!("write, {}", in_words(content)),
+            Call::Append(addition) => append_in_words(addition),
+            Call::Chain(content, first) => {
+                format!("chain from {first} records, {}", in_words(content))
+            }
+            Call::Slip(asked, addition, slip) => format!(
+                "is {} in {}.{}? slip: {}\n{}",
+                asked.member,
+                asked.entity,
+                asked.name,
+                hex(slip),
+                append_in_words(addition)
+            ),
+        };
+        let bytes = self.buffer.len();
+        format!("{call}\nbuffer of {bytes} bytes: {}", hex(&self.buffer))
+    }
 }
 
-fn report(counts: &[usize], outcomes: &Outcomes, disagreements: Vec<Disagreement>) {
-    let count = disagreements.len();
-    if let Some(found) = disagreements
-        .into_iter()
-        .min_by_key(|found| found.case.size())
-    {
-        println!("disagree: {count} cases; the smallest is");
-        print_disagreement(&found);
-        return;
-    }
-    for (group, count) in WRITER_GROUPS.iter().zip(counts) {
-        println!("agree: {} {}", group.name, count);
-    }
-    outcomes.print();
+fn in_words(content: &Content) -> String {
+    format!(
+        "E {}, R {}, marks: {}\nrecords: {}",
+        content.entities,
+        content.names,
+        hex(&content.marks),
+        hex(&content.records)
+    )
 }
 
-/// Counts what is expected of a case, the calls apart from each other.
-fn note(outcomes: &mut Outcomes, call: &Call, results: &[u64]) {
-    let kind = match call {
-        Call::Write(_) => "write",
-        Call::Append(_) => "append",
-        Call::Chain(..) => "chain",
-        Call::Slip(..) => {
-            let before = checked(results[0]);
-            let after = checked(results[2]);
-            let (appended, place) = written(results[1]);
-            let words = format!("slip {before}, {appended}, then {after}");
-            return outcomes.note(words, place);
-        }
-    };
-    let (words, place) = written(results[0]);
-    outcomes.note(format!("{kind} {words}"), place);
+fn append_in_words(addition: &Addition) -> String {
+    format!(
+        "append to a bundle of {} bytes, record: {}",
+        addition.length,
+        hex(&addition.record)
+    )
 }
 
 fn checked(result: u64) -> String {
@@ -114,56 +141,4 @@ fn agree(expected: &WriterCame, came: &WriterCame) -> Result<(), String> {
         return Err(format!("expected {wanted}\ncame     {got}"));
     }
     agree_items("buffer byte", &expected.buffer, &came.buffer)
-}
-
-fn print_disagreement(found: &Disagreement) {
-    let case = &found.case;
-    let group = WRITER_GROUPS[usize::from(case.group)].name;
-    println!("case {} of the file, group {}", found.number, group);
-    match &case.call {
-        Call::Write(content) => println!(
-            "write, E {}, R {}, marks: {}\nrecords: {}",
-            content.entities,
-            content.names,
-            hex(&content.marks),
-            hex(&content.records)
-        ),
-        Call::Append(addition) => println!(
-            "append to a bundle of {} bytes, record: {}",
-            addition.length,
-            hex(&addition.record)
-        ),
-        Call::Chain(content, first) => println!(
-            "chain from {first} records, E {}, R {}, marks: {}\nrecords: {}",
-            content.entities,
-            content.names,
-            hex(&content.marks),
-            hex(&content.records)
-        ),
-        Call::Slip(asked, addition, slip) => println!(
-            "is {} in {}.{}? slip: {}\nappend to a bundle of {} bytes, record: {}",
-            asked.member,
-            asked.entity,
-            asked.name,
-            hex(slip),
-            addition.length,
-            hex(&addition.record)
-        ),
-    }
-    println!("{}", found.difference);
-    println!(
-        "buffer of {} bytes: {}",
-        case.buffer.len(),
-        hex(&case.buffer)
-    );
-}
-
-/// Answers a file of cases with this program's own answers.
-pub fn answer_writes(cases_path: &str, answers_path: &str) -> io::Result<()> {
-    let mut cases = BufReader::new(File::open(cases_path)?);
-    let mut answers = BufWriter::new(File::create(answers_path)?);
-    while let Some(case) = WriterCase::read(&mut cases)? {
-        own_writer_answer(&case).write(&mut answers)?;
-    }
-    answers.flush()
 }

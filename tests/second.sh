@@ -1,0 +1,95 @@
+# shellcheck shell=bash
+# What the groups share that compare with the second program: drawn cases, and spoiled answers, which must be found.
+#
+# A group reads tests/lib.sh, then this file, and gives
+#
+#     work                 a temporary folder
+#     kind                 the kind of its cases, as it stands behind the second program's commands: '' or -writes
+#     groups               how many groups of cases there are
+#     outcomes             what the cases must reach, as patterns of grep -E; a wrong record at several places
+#     compare SEED COUNT   a function that compares so many cases and prints what the second program says: tests/compare, or
+#                          compare_itself where there is nothing to compare with yet
+
+second=target/tests/second
+agreed=agree
+
+# The second program's own answers stand for those of the program under test, so that the cases and the comparison are tried
+# though there is nothing to compare with. The group has to say so.
+compare_itself() { # SEED COUNT
+    "$second" "draw$kind" "$1" "$2" "$work/cases" &&
+        "$second" "answer$kind" "$work/cases" "$work/answers" &&
+        "$second" "compare$kind" "$work/cases" "$work/answers"
+}
+nothing_to_compare_with() { # WHAT
+    printf 'there is no %s: the second program is compared with itself\n' "$1"
+    agreed='are drawn'
+    compare() { compare_itself "$@"; }
+}
+
+# Every group agrees, no group is empty, no case is left out, and every outcome is reached. What the comparison said stays in
+# $work/said.
+compare_drawn() { # SEED COUNT
+    local agrees group number outcome named=0 sum=0
+    if ! compare "$1" "$2" >"$work/said"; then
+        fail "seed $1: not all agree"
+        cut -c 1-2000 "$work/said"
+        return
+    fi
+    while read -r agrees group number; do
+        if [ "$agrees" != agree: ] || [ "$number" -eq 0 ]; then
+            fail "seed $1: $agrees $group $number"
+            continue
+        fi
+        pass "seed $1: $group, $number cases $agreed"
+        named=$((named + 1)) sum=$((sum + number))
+    done < <(grep -v '^outcome: ' "$work/said")
+    # shellcheck disable=SC2154 # the group sets it
+    same "seed $1: every group and every case is compared" "$groups groups, $2 cases" "$named groups, $sum cases"
+    for outcome in "${outcomes[@]}"; do
+        reached "seed $1" "$outcome"
+    done
+}
+
+reached() { # NAME OUTCOME
+    local line least=1
+    case $2 in *6[1-5]) least=5 ;; esac
+    line=$(grep -E "^outcome: $2: " "$work/said")
+    if [[ $line =~ :\ ([1-9][0-9]*)\ cases,\ different\ places:\ ([0-9]+)$ ]] && [ "${BASH_REMATCH[2]}" -ge "$least" ]; then
+        pass "$1: ${line#outcome: }"
+    else
+        fail "$1: the outcome $2 at $least places or more: '$line'"
+    fi
+}
+
+# Draws cases from seed 1 into $work/cases, and the second program's own answers into $work/answers. They are what is spoiled
+# below, so that what fails there is the comparison, whatever the program under test answers.
+answers_to_spoil() { # COUNT
+    "$second" "draw$kind" 1 "$1" "$work/cases"
+    "$second" "answer$kind" "$work/cases" "$work/answers"
+    "$second" "compare$kind" "$work/cases" "$work/answers" >"$work/said"
+    same "$1 answers agree as they are" 0 "$?"
+    same 'no word of a difference' '' "$(grep -v -E '^(agree|outcome): ' "$work/said")"
+}
+
+# Spoiled answers must be told from the right ones, by this first line.
+found() { # NAME TEXT FILE
+    if "$second" "compare$kind" "$work/cases" "$3" >"$work/said" 2>&1; then
+        fail "$1: the comparison ended with status 0"
+    else
+        same "$1" "$2" "$(head -n 1 "$work/said")"
+    fi
+}
+flipped() { # NAME BYTE: one bit in one byte of a copy of the answers
+    local byte
+    cp "$work/answers" "$work/spoiled"
+    byte=$(od -A n -t u1 -j "$2" -N 1 "$work/answers")
+    printf '%b' "$(printf '\\x%02x' $((byte ^ 1)))" |
+        dd of="$work/spoiled" bs=1 seek="$2" conv=notrunc status=none
+    found "$1" 'disagree: 1 cases; the smallest is' "$work/spoiled"
+}
+cut_and_lengthened() { # COUNT: of the cases
+    head -c -1 "$work/answers" >"$work/spoiled"
+    found 'the last byte missing' "disagree: the file of answers ends in the answer to case $(($1 - 1))" "$work/spoiled"
+    { cat "$work/answers"; printf '\0'; } >"$work/spoiled"
+    found 'one byte more' 'disagree: the file of answers goes on after the last case' "$work/spoiled"
+}
