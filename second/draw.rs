@@ -11,6 +11,7 @@ use crate::reader::{read_bundle, Bundle};
 use crate::service::{Lent, Question};
 use crate::shape::{self, Draft};
 use crate::slip::{bytes_of, lines_of, Line};
+use std::ops::Range;
 
 pub const GROUPS: [Group<Case>; 36] = [
     group("small-bundles", 4, small_bundles),
@@ -51,6 +52,11 @@ pub const GROUPS: [Group<Case>; 36] = [
     group("slips-of-the-house", 1, slips_of_the_house),
 ];
 
+/// The places of the groups over valid bundles, and of those over damaged ones
+/// or with a question or memory that is refused.
+pub const VALID_BUNDLES: Range<usize> = 0..11;
+pub const DAMAGED_BUNDLES: Range<usize> = 11..21;
+
 /// Lent memory that is long enough, at times longer than needed.
 fn enough_lent(random: &mut Random) -> Lent {
     let mut lent = Lent::enough();
@@ -87,7 +93,7 @@ fn telling_question(random: &mut Random, bundle: &Bundle) -> Question {
     Question::about(asked)
 }
 
-fn any_question(random: &mut Random, draft: &Draft) -> Question {
+pub fn any_question(random: &mut Random, draft: &Draft) -> Question {
     let role = shape::random_role(random, draft);
     Question::about((role.entity, role.name, random.number(draft.entities)))
 }

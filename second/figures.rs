@@ -7,6 +7,7 @@ use crate::house::{
     full, house, house_slip, house_without_5, longest_chain, longest_walk, one, over,
     self_contained, signer_question, GUILD, NINA, TOMAS, UPLAND,
 };
+use crate::list_figures::try_lists;
 use crate::membership::{possible_table, sure_walk, walk_by_definition, Table};
 use crate::mistake::mistake;
 use crate::random::Random;
@@ -50,6 +51,7 @@ pub fn try_figures() -> bool {
     try_mistakes(&mut tally);
     try_first_mistakes(&mut tally);
     try_writer(&mut tally);
+    try_lists(&mut tally);
     for seed in 0..400 {
         try_mistaken_records(&mut tally, seed);
         try_membership(&mut tally, seed);

@@ -25,7 +25,7 @@ const COLLEGE: u8 = 2;
 const ACCREDITED: u8 = 3;
 const STUDENT: u8 = 4;
 const MEMBER: u8 = 5;
-const SIGNER: u8 = 6;
+pub const SIGNER: u8 = 6;
 
 /// Is this person in the Archive's signer role?
 pub fn signer_question(person: u8) -> Question {

@@ -5,12 +5,16 @@
 //! to agree or disagree with it on many inputs, valid and damaged.
 //!
 //! Commands, each of the first four with the kind of cases behind it:
-//! `draw` for searches and checks, `draw-writes` for the writer.
+//! `draw` for searches and checks, `draw-writes` for the writer, `draw-lists`
+//! for the programs that print lists.
 //!   draw SEED COUNT FILE     write that many cases to a file
 //!   compare CASES ANSWERS    compare answers with this program's own
 //!   answer CASES ANSWERS     write this program's own answers
 //!   survey CASES             count the expected outcomes of each group
-//!   ask                      answer a question from standard input
+//!   run-lists CASES ANSWERS COMMAND
+//!                            write the answers of the programs under test,
+//!                            each started by the command and its name
+//!   ask, members, roles      answer standard input as that program does
 //!   house DIRECTORY          write the named bundles as files
 //!   figures                  try the figures of the specification
 
@@ -22,8 +26,13 @@ mod figures;
 mod forge;
 mod groups;
 mod house;
+mod list_draw;
+mod list_figures;
+mod lists;
 mod membership;
 mod mistake;
+mod program;
+mod program_exchange;
 mod random;
 mod reader;
 mod run;
@@ -38,14 +47,18 @@ mod writer_run;
 
 use comparison::Exchange;
 use exchange::Case;
+use list_draw::Lists;
+use lists::{MEMBERS, ROLES};
+use program::ASK;
+use program_exchange::ProgramCase;
 use std::env;
-use std::io::{self, Read};
+use std::io;
 use std::process::ExitCode;
 use writer_exchange::WriterCase;
 
 const USAGE: &str = "usage: second draw[-KIND] SEED COUNT FILE | compare[-KIND] CASES ANSWERS | \
-    answer[-KIND] CASES ANSWERS | survey[-KIND] CASES | ask | house DIRECTORY | figures; \
-    KIND is writes";
+    answer[-KIND] CASES ANSWERS | survey[-KIND] CASES | run-lists CASES ANSWERS COMMAND... | \
+    ask | members | roles | house DIRECTORY | figures; KIND is writes or lists";
 
 fn main() -> ExitCode {
     let words: Vec<String> = env::args().skip(1).collect();
@@ -63,11 +76,19 @@ fn main() -> ExitCode {
 /// Does what a command says; false when something came out wrong.
 fn obey(words: &[&str]) -> io::Result<bool> {
     match words {
-        ["ask"] => ask_input()?,
+        ["ask"] => ASK.answer_input()?,
+        ["members"] => MEMBERS.answer_input()?,
+        ["roles"] => ROLES.answer_input()?,
+        ["run-lists", cases, answers, command @ ..] if !command.is_empty() => {
+            program_exchange::run::<Lists>(cases, answers, command)?
+        }
         ["house", directory] => house::write_files(directory)?,
         ["figures"] => return Ok(figures::try_figures()),
         [command, rest @ ..] => match command.split_once('-') {
             None => return obey_with_cases::<Case>(command, rest),
+            Some((command, "lists")) => {
+                return obey_with_cases::<ProgramCase<Lists>>(command, rest)
+            }
             Some((command, "writes")) => return obey_with_cases::<WriterCase>(command, rest),
             _ => return Err(io::Error::other(USAGE)),
         },
@@ -96,14 +117,4 @@ where
     T: std::str::FromStr<Err = std::num::ParseIntError>,
 {
     word.parse().map_err(io::Error::other)
-}
-
-/// Reads no more than it takes to see that a bundle is too long, so that input
-/// without end is answered too.
-fn ask_input() -> io::Result<()> {
-    let most = 3 + reader::LONGEST_BUNDLE + 1;
-    let mut input = Vec::new();
-    io::stdin().take(most as u64).read_to_end(&mut input)?;
-    println!("{}", service::ask(&input));
-    Ok(())
 }

@@ -1,30 +1,16 @@
-# shellcheck shell=bash
+# shellcheck shell=bash disable=SC2154 # the group sets what it gives
 # What the groups share that compare with the second program: drawn cases, and spoiled answers, which must be found.
 #
 # A group reads tests/lib.sh, then this file, and gives
 #
 #     work                 a temporary folder
-#     kind                 the kind of its cases, as it stands behind the second program's commands: '' or -writes
+#     kind                 the kind of its cases, as it stands behind the second program's commands: '', -writes or -lists
 #     groups               how many groups of cases there are
 #     outcomes             what the cases must reach, as patterns of grep -E; a wrong record at several places
-#     compare SEED COUNT   a function that compares so many cases and prints what the second program says: tests/compare, or
-#                          compare_itself where there is nothing to compare with yet
+#     compare SEED COUNT   a function that compares so many cases and prints what the second program says: tests/compare or
+#                          one like it
 
 second=target/tests/second
-agreed=agree
-
-# The second program's own answers stand for those of the program under test, so that the cases and the comparison are tried
-# though there is nothing to compare with. The group has to say so.
-compare_itself() { # SEED COUNT
-    "$second" "draw$kind" "$1" "$2" "$work/cases" &&
-        "$second" "answer$kind" "$work/cases" "$work/answers" &&
-        "$second" "compare$kind" "$work/cases" "$work/answers"
-}
-nothing_to_compare_with() { # WHAT
-    printf 'there is no %s: the second program is compared with itself\n' "$1"
-    agreed='are drawn'
-    compare() { compare_itself "$@"; }
-}
 
 # Every group agrees, no group is empty, no case is left out, and every outcome is reached. What the comparison said stays in
 # $work/said.
@@ -40,10 +26,9 @@ compare_drawn() { # SEED COUNT
             fail "seed $1: $agrees $group $number"
             continue
         fi
-        pass "seed $1: $group, $number cases $agreed"
+        pass "seed $1: $group, $number cases agree"
         named=$((named + 1)) sum=$((sum + number))
     done < <(grep -v '^outcome: ' "$work/said")
-    # shellcheck disable=SC2154 # the group sets it
     same "seed $1: every group and every case is compared" "$groups groups, $2 cases" "$named groups, $sum cases"
     for outcome in "${outcomes[@]}"; do
         reached "seed $1" "$outcome"
