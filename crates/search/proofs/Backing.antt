@@ -11,7 +11,7 @@ use lib.Bits.{bitOr}
 use Rattle.rt0.specs.Book.{Book}
 use Rattle.rt0.proofs.Bits.{bit-or}
 use Rattle.words.specs.Sizes.{mostEntities}
-use Rattle.search.specs.Fact.{HasLine, Backed}
+use Rattle.premises.specs.Fact.{HasLine, Backed}
 use Rattle.search.specs.Ledger.{Extended}
 use Rattle.search.specs.Writing.{AllStated}
 

@@ -17,10 +17,10 @@ use Rattle.rt0.proofs.Says.{says-within, says-longer, says-cases}
 use Rattle.rt0.proofs.Least.{member-within}
 use Rattle.rt0.proofs.Slips.{line-sound, right-snoc}
 use Rattle.words.specs.Sizes.{mostEntities, width, factCount}
-use Rattle.search.specs.Fact.{fact, factNumber, lineOf, HasLine, Backed}
+use Rattle.premises.specs.Fact.{fact, factNumber, lineOf, HasLine, Backed}
 use Rattle.search.specs.Ledger.{Ledger}
 use Rattle.words.proofs.Wider.{role-wider}
-use Rattle.search.proofs.Facts.{number-within, number-fact, number-holds, fact-injective}
+use Rattle.premises.proofs.Facts.{number-within, number-fact, number-holds, fact-injective}
 
 -- no lines, and an index of zeros
 pub ledger-nil : (book : Book) (index : List ℕ) → length index ≡ factCount → ((f : ℕ) → getD index f 0 ≡ 0) → Ledger book index []

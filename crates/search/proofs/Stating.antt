@@ -33,15 +33,19 @@ use Rattle.words.proofs.Stepped.{step-place, step-gives}
 use Rattle.words.proofs.Wider.{role-wider, valid-wider}
 use Rattle.words.proofs.Given.{place-valid, head-valid as place-of-head, give-valid}
 use Rattle.tables.proofs.Held.{HeldRecord, held-entities, held-valid, held-record, held-place}
-use Rattle.search.specs.declared.line.Premises.{Premises}
 use Rattle.search.specs.declared.slip.Given.{Given}
-use Rattle.search.specs.Fact.{factNumber, HasLine, Backed}
-use Rattle.search.specs.Ledger.{WroteLine, Ledger, Extended}
-use Rattle.search.specs.Premise.{PremisesFor, PremisesOf}
-use Rattle.search.specs.Writing.{Writing, IsRecord, HasSteps, IsGiven, OneMore}
-use Rattle.search.proofs.Facts.{number-within, number-fact}
+use Rattle.premises.specs.declared.premise.Premises.{Premises}
+use Rattle.premises.specs.Fact.{factNumber, HasLine, Backed}
+use Rattle.premises.specs.Line.{lineBy, withLine, WroteLine}
+use Rattle.premises.specs.Premise.{PremisesFor, PremisesOf, premisesBy}
+use Rattle.premises.proofs.LineBytes.{wrote-line}
+use Rattle.premises.proofs.Premises.{premises-found}
+use Rattle.search.specs.Ledger.{Ledger, Extended}
+use Rattle.search.specs.Writing.{Writing, IsRecord, HasSteps, IsGiven, AtMostOneMore}
+use Rattle.premises.proofs.Facts.{number-member, number-within, number-fact}
 use Rattle.search.proofs.Ledgers.{ledger-snoc, ledger-once}
-use Rattle.search.proofs.Premises.{premises-follow}
+use Rattle.search.proofs.Following.{premises-follow}
+use Rattle.search.proofs.Steps.{OneMore, one-at-most, bit-one}
 
 -- an entry that is set stays one, and the others stay
 entry-kept : (index : List ℕ) (f v g : ℕ) → f < length index → (v ≡ 0 → ⊥) → HasLine index g → HasLine (set index f v) g
@@ -148,7 +152,7 @@ module _ {bytes ws index slip : List ℕ} {n : ℕ} {g : Given} (w : Writing byt
   this : HeldRecord bytes (g .entities) (g .number)
   this = held-record bytes (w .accepts) (g .number) (i .number .above) (i .number .within)
 
-  pub entities-most : g .entities ≤ mostEntities
+  entities-most : g .entities ≤ mostEntities
   entities-most = held-entities bytes (w .accepts)
 
   pub number-most : g .number ≤ 240
@@ -156,14 +160,16 @@ module _ {bytes ws index slip : List ℕ} {n : ℕ} {g : Given} (w : Writing byt
 
   -- it gives D, whose fact is new, and its premises are found
   module _ {D : ℕ} (member : IsEntity mostEntities D) (given : bit (g .word) (D - 1) ≡ 1)
-      (new : getD index (g .first + (D - 1)) 0 ≡ 0) (ps : Premises) {r : Record} (e : r ≡ recordOf bytes (g .number))
-      (premises : PremisesOf (g .entities) ws index (credentialOf r) D ps) where
+      (new : getD index (g .first + (D - 1)) 0 ≡ 0) where
+    abbrev ps : Premises
+    ps = premisesBy ws index (recordOf bytes (g .number)) D
+
     fact-here : g .first + (D - 1) ≡ factNumber (head (this .credential)) D
     fact-here =
         let K = this .credential in
         let wide = role-wider entities-most (le-refl width) (head K) (valid-head (g .entities) width K (this .valid)) in
         let place = place-of-head entities-most (recordOf bytes (g .number)) K (this .read) (this .valid) ∙ sym (place-valid (head K) wide) in
-        ap (λ (f : ℕ). f + (D - 1)) (i .first) ∙ ap (λ (p : ℕ). mostEntities * p + (D - 1)) place
+        ap (λ (f : ℕ). f + (D - 1)) (i .first) ∙ ap (λ (p : ℕ). mostEntities * p + (D - 1)) place ∙ sym (number-member (head K) D member)
 
     this-line : NextLine (held bytes) (bookIn bytes) (g .entities) ws index slip n (g .number) (this .credential) D (ps .first) (ps .second) (ps .third)
     this-line = record {
@@ -178,12 +184,31 @@ module _ {bytes ws index slip : List ℕ} {n : ℕ} {g : Given} (w : Writing byt
       member = member;
       given = rw (i .word, give-valid entities-most ws (recordOf bytes (g .number)) (this .credential) (this .read) (this .valid)) at given;
       new = rw fact-here at new;
-      premises = rw (e, this .read) at premises;
+      premises = rw (this .read) at (premises-found (g .entities) entities-most ws D index member (recordOf bytes (g .number)) (rw (i .word) at given));
     }
 
-    pub line-room : n < slipLines
-    line-room = room-there this-line
+    room : n < slipLines
+    room = room-there this-line
 
-    pub one-more : {slip' : List ℕ} → WroteLine slip n (line D (g .number) (ps .first) (ps .second) (ps .third)) slip'
+    one-more : {slip' : List ℕ} → slip' ≡ withLine slip n (line D (g .number) (ps .first) (ps .second) (ps .third))
         → OneMore bytes index slip n (g .first + (D - 1)) (set index (g .first + (D - 1)) (n + 1)) slip' (n + 1)
-    one-more wrote = record { extended = rw fact-here (extended-line this-line wrote); lines = refl; entry = refl }
+    one-more e = record {
+      extended = rw fact-here (extended-line this-line (wrote-line (omega (arith, room, w .room)) e));
+      lines = refl;
+      entry = refl;
+    }
+
+  -- the same of entity x + 1, by its bit
+  module _ {x : ℕ} (l : x < mostEntities) (given : bit (g .word) x ≡ 0 → ⊥) (new : getD index (g .first + x) 0 ≡ 0) where
+    same : x + 1 - 1 ≡ x
+    same = omega arith
+
+    pub line-room : n < slipLines
+    line-room = room {D = x + 1} (omega arith) (rw same (bit-one (g .word) x given)) (rw same new)
+
+    pub line-more : {slip' : List ℕ} {k : Record} → k ≡ recordOf bytes (g .number)
+        → slip' ≡ withLine slip n (lineBy ws index k (g .number) (x + 1))
+        → AtMostOneMore bytes index slip n (g .first + x) (bit (g .word) x) (set index (g .first + x) (n + 1)) slip' (n + 1)
+    line-more e f =
+        one-at-most (bit (g .word) x) (omega (arith, w .ledger .size, i .inside))
+        (rw same at (one-more {D = x + 1} (omega arith) (rw same (bit-one (g .word) x given)) (rw same new) (rw e at f)))

@@ -6,17 +6,17 @@ use native.Mathlib.Omega.{arith}
 use mathlib.Core.Path.{_≡_, refl, sym, _∙_}
 use mathlib.Core.Logic.{inl, inr, ⊎-elim, by-cases}
 use mathlib.Core.List.{List}
-use lib.ListN.{length}
+use lib.ListN.{length, set}
 use lib.Seq.{getD-set-same, getD-set-other}
 use Rattle.rt0.specs.Book.{Book}
 use Rattle.rt0.specs.Bytes.{linesOf}
 use Rattle.rt0.specs.Word.{bit}
 use Rattle.rt0.proofs.Bits.{bit-cases}
 use Rattle.words.specs.Sizes.{tableWords}
-use Rattle.search.specs.Fact.{HasLine, Backed}
+use Rattle.premises.specs.Fact.{HasLine, Backed}
 use Rattle.search.specs.Ledger.{Ledger, Extended}
 use Rattle.bundle.specs.Held.{bookIn}
-use Rattle.search.specs.Writing.{Writing, NoneOrLast, OneMore, AtMostOneMore, Unsaid, Progress, AllStated}
+use Rattle.search.specs.Writing.{Writing, NoneOrLast, AtMostOneMore, Unsaid, Progress, AllStated}
 use Rattle.tables.proofs.Comparing.{drop-later}
 
 -- ---- none, and two
@@ -66,6 +66,12 @@ pub progress-end : {book : Book} {index slip : List ℕ} {n : ℕ} {index' slip'
 progress-end x unsaid p = record { extended = x; last = inl (unsaid .none); otherwise = λ _. p }
 
 -- ---- at most one more
+
+-- one more line, which states fact f
+pub record OneMore (bytes index slip : List ℕ) (n f : ℕ) (index' slip' : List ℕ) (n' : ℕ) : Type 0 where
+  pub extended : Extended (bookIn bytes) index slip n index' slip' n'
+  pub lines : n' ≡ n + 1
+  pub entry : index' ≡ set index f n'
 
 -- none, where the fact has a line if it is given
 pub none-more : {bytes : List ℕ} {E : ℕ} {ws index slip : List ℕ} {n : ℕ} (f given : ℕ) → Writing bytes E ws index slip n

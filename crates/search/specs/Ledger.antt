@@ -1,19 +1,13 @@
 -- A slip while it is written: its lines are right, and the index knows the line of each fact that is stated, and no other.
-use Prim.Native.Nat.{ℕ, _+_, _*_, _<_, _≤_}
+use Prim.Native.Nat.{ℕ, _*_, _<_, _≤_}
 use mathlib.Core.Path.{_≡_}
-use mathlib.Core.List.{List, [], _∷_, _++_}
+use mathlib.Core.List.{List}
 use lib.ListN.{length, getD, drop}
 use Rattle.rt0.specs.Book.{Book}
 use Rattle.rt0.specs.Slip.{Line, Says, RightSlip}
 use Rattle.rt0.specs.Bytes.{linesOf}
 use Rattle.words.specs.Sizes.{factCount}
-use Rattle.search.specs.Fact.{fact, HasLine}
-
--- one more line behind n lines: the lines before it and the bytes behind it stay
-pub record WroteLine (before : List ℕ) (n : ℕ) (l : Line) (after : List ℕ) : Type 0 where
-  pub size : length after ≡ length before
-  pub lines : linesOf after (n + 1) ≡ linesOf before n ++ (l ∷ [])
-  pub rest : drop (8 * (n + 1)) after ≡ drop (8 * (n + 1)) before
+use Rattle.premises.specs.Fact.{fact, HasLine}
 
 -- the lines are a right slip, and the index has the number of the line that states a fact
 pub record Ledger (book : Book) (index : List ℕ) (lines : List Line) : Type 0 where

@@ -1,13 +1,10 @@
 -- What the search promises. Promise: what the answer is, and what stands in lent memory, for every bundle, question and memory.
 -- Written: the slip that comes with YES. Enough: memory with which 8 is never due. Agreement: what any two answers agree in. The others stand between the promise and the
--- functions. Concluded: a right question, and its word. Fact, Ledger, Premise, Writing: facts by number, a slip while it is written,
--- where a line's premises stand, and one record's use.
+-- functions. Concluded: a right question, and its word. Ledger, Writing: a slip while it is written, and one record's use.
 pub mod Written
 pub mod Promise
 pub mod Enough
 pub mod Concluded
 pub mod Agreement
-pub mod Fact
 pub mod Ledger
-pub mod Premise
 pub mod Writing

@@ -4,7 +4,7 @@ use Prim.Native.Nat.{ℕ, _+_, _*_, _<_, _≤_}
 use mathlib.Core.Path.{_≡_}
 use mathlib.Core.Logic.{_⊎_}
 use mathlib.Core.List.{List}
-use lib.ListN.{length, getD, set, drop}
+use lib.ListN.{length, getD, drop}
 use Rattle.rt0.specs.Book.{Book}
 use Rattle.rt0.specs.Bytes.{linesOf}
 use Rattle.rt0.specs.Word.{bit}
@@ -17,7 +17,7 @@ use Rattle.words.specs.Sizes.{mostEntities, tableWords, factCount, slipBytes}
 use Rattle.words.specs.Give.{giveOf, headPlace}
 use Rattle.words.specs.Step.{Stepped}
 use Rattle.search.specs.declared.slip.Given.{Given}
-use Rattle.search.specs.Fact.{HasLine, Backed}
+use Rattle.premises.specs.Fact.{HasLine, Backed}
 use Rattle.search.specs.Ledger.{Ledger, Extended}
 
 -- the sizes of a bundle of E entities
@@ -56,12 +56,6 @@ pub record IsGiven (bytes ws : List ℕ) (g : Given) : Type 0 where
   pub first : g .first ≡ headFact bytes (g .number)
   pub inside : g .first + mostEntities ≤ factCount
   pub word : g .word ≡ givenBy bytes (g .entities) ws (g .number)
-
--- one more line, which states fact f
-pub record OneMore (bytes index slip : List ℕ) (n f : ℕ) (index' slip' : List ℕ) (n' : ℕ) : Type 0 where
-  pub extended : Extended (bookIn bytes) index slip n index' slip' n'
-  pub lines : n' ≡ n + 1
-  pub entry : index' ≡ set index f n'
 
 -- fact f has no line, or the last of n
 abbrev pub NoneOrLast : List ℕ → ℕ → ℕ → Type 0

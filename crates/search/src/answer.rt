@@ -72,22 +72,10 @@ pub(crate) fn work_out(
         (lent (now (sure .entry)) (now (possible .entry)) (now (slip .entry)))
         (lent (now (sure .exit)) (now (possible .exit)) (now (slip .exit))) (outcomeOf r) ⌝ }
 {
-    let filled = fill(bundle, sure, possible);
-    let Filled::Rounds { sizes, rounds } = filled else {
-        match filled {
-            Filled::Refused { number, place } => {
-                return Answer::Refused { number, place };
-            }
-            Filled::Rounds {
-                sizes: _,
-                rounds: _,
-            } => {
-                return Answer::Refused {
-                    number: 0,
-                    place: 0,
-                };
-            }
+    match fill(bundle, sure, possible) {
+        Filled::Refused { number, place } => Answer::Refused { number, place },
+        Filled::Rounds { sizes, rounds } => {
+            conclude(bundle, sizes, rounds, question, sure, possible, slip)
         }
-    };
-    conclude(bundle, sizes, rounds, question, sure, possible, slip)
+    }
 }

@@ -14,8 +14,6 @@ use bundle::read::sizes_of;
 use words::table::Table;
 
 pub mod answer;
-pub mod line;
-pub mod premise;
 pub mod slip;
 
 // The refusal of a bundle with a wrong question, or else with too little memory: the reader's own goes first, then 7, then 8.

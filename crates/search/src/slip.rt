@@ -1,8 +1,7 @@
 // The slip: the rounds over again, with a line for each fact that a record adds, up to the fact in question.
 ghost use mathlib.Core.Path.{_≡_};
-ghost use Prim.Native.Nat.{_+_, _-_, _<_, _≤_};
-ghost use lib.ListN.{length, getD};
-ghost use Rattle.rt0.specs.Credential.{IsEntity};
+ghost use Prim.Native.Nat.{_+_, _<_, _≤_};
+ghost use lib.ListN.{length};
 ghost use Rattle.rt0.specs.Membership.{Member};
 ghost use Rattle.rt0.specs.Table.{Rounds};
 ghost use Rattle.rt0.specs.Word.{bit, roundWords, timesWords};
@@ -12,16 +11,15 @@ ghost use Rattle.bundle.specs.Held.{held, bookIn};
 ghost use Rattle.bundle.specs.Question.{roleAsked, Asked};
 ghost use Rattle.words.specs.Sizes.{mostEntities, width, tableWords, slipBytes};
 ghost use Rattle.words.specs.Give.{useRecord};
-ghost use Rattle.search.specs.Fact.{HasFact, Backed};
-ghost use Rattle.search.specs.Writing.{Writing, IsRecord, HasSteps, IsGiven, OneMore, AtMostOneMore};
+ghost use Rattle.premises.specs.Fact.{HasFact, Backed};
+ghost use Rattle.search.specs.Writing.{Writing, IsRecord, HasSteps, IsGiven, AtMostOneMore};
 ghost use Rattle.search.specs.Writing.{Unsaid, Progress, AllStated, Finished};
 ghost use Rattle.search.specs.Written.{Written};
-use crate::line::write_line;
-use crate::premise::fact_number;
-use crate::premise::premises_of;
 use bundle::access::record_at;
 use bundle::question::Question;
 use bundle::read::Sizes;
+use premises::fact::fact_number;
+use premises::line::write_line;
 use words::give::gain;
 use words::step::Step;
 use words::step::write_steps;
@@ -52,31 +50,8 @@ pub struct Turn {
     pub lines: usize,
 }
 
-// One more line: that the member is in the head of a record, which gives it.
+// One more line, that entity i + 1 is in the head of a record, if the record gives it and the fact has no line yet.
 fn state(
-    bundle: &[u8],
-    words: &[u32],
-    given: Given,
-    member: usize,
-    index: &mut [u16],
-    slip: &mut [u8],
-    lines: usize,
-) -> usize
-    requires { ⌜ Writing (now bundle) (given .entities) (now words) (now index) (now slip) lines
-        × IsGiven (now bundle) (now words) given × IsEntity mostEntities member × (bit (given .word) (member - 1) ≡ 1)
-        × (getD (now index) (given .first + (member - 1)) 0 ≡ 0) ⌝ }
-    ensures { λ r. ⌜ OneMore (now (bundle .entry)) (now (index .entry)) (now (slip .entry)) lines
-        (given .first + (member - 1)) (now (index .exit)) (now (slip .exit)) r ⌝ }
-{
-    let record = record_at(bundle, given.number);
-    let premises = premises_of(words, index, record, member, given.entities);
-    write_line(slip, lines, member, given.number, premises);
-    index[given.first + (member - 1)] = (lines + 1) as u16;
-    lines + 1
-}
-
-// One more line, if the record gives entity i + 1 and the fact has no line yet.
-fn state_if_new(
     bundle: &[u8],
     words: &[u32],
     given: Given,
@@ -93,10 +68,22 @@ fn state_if_new(
     if (given.word >> i) % 2 == 0 {
         return lines;
     }
-    if index[given.first + i] != 0 {
+    let at = given.first + i;
+    if index[at] != 0 {
         return lines;
     }
-    state(bundle, words, given, i + 1, index, slip, lines)
+    let record = record_at(bundle, given.number);
+    write_line(
+        words,
+        index,
+        record,
+        given.number as u8,
+        (i + 1) as u8,
+        slip,
+        lines,
+    );
+    index[at] = (lines + 1) as u16;
+    lines + 1
 }
 
 // A line for each member that the record gives and whose fact has no line yet, up to the fact in question.
@@ -117,7 +104,7 @@ fn state_members(
     let mut count = lines;
     let mut i: usize = 0;
     while i < Table::ENTITIES {
-        count = state_if_new(bundle, words, given, i, index, slip, count);
+        count = state(bundle, words, given, i, index, slip, count);
         if index[goal] != 0 {
             return count;
         }

@@ -1,26 +1,29 @@
 -- `search::answer::work_out` meets its contract.
-use native.Mathlib.Omega.{arith}
-use borrow.Author.Needs.{needs}
-use mathlib.Core.Path.{_∙_}
 use denote.Ref.{now}
 use Rattle.tables.proofs.Told.{filled-told}
 use Rattle.search.proofs.Concluding.{tables-shown, answered-with}
 use Rattle.search.specs.Promise.{lent}
 use Rattle.search.proofs.Judging.{lent-enough, asked-of, refused-tables, answered-rightly}
+use borrow.Author.Needs.{needs}
 use Rattle.search.proofs.answer.work_out.Statement.{statement}
 use Rattle.search.proofs.answer.work_out.Tie as tie
 
 fill-requires : tie.Need-fill-requires
 fill-requires c κs = search needs
 
-enum-known-filled : tie.Need-enum-known-filled
-enum-known-filled c = search needs
+enum-known-number : tie.Need-enum-known-number
+enum-known-number c = search needs
 
-enum-known-filled-2 : tie.Need-enum-known-filled-2
-enum-known-filled-2 c = search needs
+enum-known-sizes : tie.Need-enum-known-sizes
+enum-known-sizes c = search needs
 
-enum-known-filled-3 : tie.Need-enum-known-filled-3
-enum-known-filled-3 c = search needs
+conclude-requires : tie.Need-conclude-requires
+conclude-requires c κs =
+    let known = c .before .before .before .before in
+    let (accepts, filled) = filled-told _ _ _ _ _ (rw (known .sizes .given .1) at (known .before .before .before .before .before .before .fill .ensures)) in
+    let start = known .before .before .before .before .before .before .before .before .before .before .before .before .before in
+    let enough = lent-enough (lent (now (start .args .sure)) (now (start .args .possible)) (now (start .args .slip))) (start .pre .1) in
+    (asked-of _ _ _ accepts (start .pre .0), tables-shown filled, enough .slip)
 
 same-length : tie.Need-same-length
 same-length c = search needs
@@ -30,13 +33,9 @@ same-length-2 c = search needs
 
 returns : tie.Need-returns
 returns c =
-    let call = c .before .before .before .before .before .before .before .before .before .before in
-    let start = call .before .before .before .before .before .before .before in
-    refused-tables (now (start .args .bundle)) _ _ _ _ (start .pre .1) _ _ _
-    (rw (c .before .before .before .before .filled2 .given .1 ∙ c .before .filled3 .given .1) at (call .fill .ensures))
-
-enum-told : tie.Need-enum-told
-enum-told c = search needs
+    let known = c .before in
+    let start = known .before .before .before .before .before .before .before .before .before .before .before .before .before in
+    refused-tables (now (start .args .bundle)) _ _ _ _ (start .pre .1) _ _ _ (rw (known .number .given .1) at (known .before .before .before .before .before .before .fill .ensures))
 
 same-length-3 : tie.Need-same-length-3
 same-length-3 c = search needs
@@ -44,30 +43,13 @@ same-length-3 c = search needs
 same-length-4 : tie.Need-same-length-4
 same-length-4 c = search needs
 
-returns-2 : tie.Need-returns-2
-returns-2 c = absurd (omega (arith, c .before .match2 .keys2))
-
-conclude-requires : tie.Need-conclude-requires
-conclude-requires c κs =
-    let known = c .before .before .before .before in
-    let (accepts, filled) = filled-told _ _ _ _ _ (rw (known .filled .given .1) at (known .before .before .before .before .before .before .fill .ensures)) in
-    let start = known .before .before .before .before .before .before .before .before .before .before .before .before .before in
-    let enough = lent-enough (lent (now (start .args .sure)) (now (start .args .possible)) (now (start .args .slip))) (start .pre .1) in
-    (asked-of _ _ _ accepts (start .pre .0), tables-shown filled, enough .slip)
-
 same-length-5 : tie.Need-same-length-5
 same-length-5 c = search needs
 
-same-length-6 : tie.Need-same-length-6
-same-length-6 c = search needs
-
-same-length-7 : tie.Need-same-length-7
-same-length-7 c = search needs
-
-returns-3 : tie.Need-returns-3
-returns-3 c =
+returns-2 : tie.Need-returns-2
+returns-2 c =
     let known = c .before .before .before .before .before .before .before in
-    let (accepts, filled) = filled-told _ _ _ _ _ (rw (known .filled .given .1) at (known .before .before .before .before .before .before .fill .ensures)) in
+    let (accepts, filled) = filled-told _ _ _ _ _ (rw (known .sizes .given .1) at (known .before .before .before .before .before .before .fill .ensures)) in
     let pre = known .before .before .before .before .before .before .before .before .before .before .before .before .before .pre in
     answered-rightly _ _ _ _ _ (pre .1) _ _ _ accepts (pre .0) (answered-with filled (c .before .before .conclude .ensures))
 
@@ -76,18 +58,13 @@ work-out-spec =
     tie.close
     (tie.spec
     fill-requires
-    enum-known-filled
-    enum-known-filled-2
-    enum-known-filled-3
+    enum-known-number
+    enum-known-sizes
+    conclude-requires
     same-length
     same-length-2
     returns
-    enum-told
     same-length-3
     same-length-4
-    returns-2
-    conclude-requires
     same-length-5
-    same-length-6
-    same-length-7
-    returns-3)
+    returns-2)

@@ -9,7 +9,7 @@ use lib.ListN.{length, length-set, take, drop}
 use Rattle.words.specs.Sizes.{tableWords}
 use Rattle.words.proofs.Filling.{copied-same}
 use Rattle.tables.proofs.Rounds.{roundTo, round-none, round-more, round-all}
-use Rattle.search.specs.Fact.{Backed}
+use Rattle.premises.specs.Fact.{Backed}
 use Rattle.search.specs.Ledger.{Extended}
 use Rattle.bundle.specs.Held.{held, bookIn}
 use Rattle.search.specs.Writing.{Unsaid}

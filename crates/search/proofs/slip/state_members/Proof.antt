@@ -27,8 +27,8 @@ loop-holds c =
     let pre = start .pre in
     (search needs, extended-same (pre .0 .ledger), pre .2, stated-none (now (args .index)) (args .given .first) (args .given .word))
 
-state-if-new-requires : tie.Need-state-if-new-requires Inv-loop μ-loop
-state-if-new-requires c κs =
+state-requires : tie.Need-state-requires Inv-loop μ-loop
+state-requires c κs =
     let pre = c .before .before .before .before .before .before .before .before .pre in
     (writing-on (pre .0) (c .before .before .before .loop .inv .1), pre .1, c .before .before .loop-test .taken)
 
@@ -44,13 +44,13 @@ same-length c = search needs
 same-length-2 : tie.Need-same-length-2 Inv-loop μ-loop
 same-length-2 c =
     let call = c .before .before .before .before .before .before in
-    call .state-if-new .ensures .extended .size ∙ call .before .before .before .before .loop .inv .1 .size
+    call .state .ensures .extended .size ∙ call .before .before .before .before .loop .inv .1 .size
 
 returns : tie.Need-returns Inv-loop μ-loop
 returns c =
     let call = c .before .before .before .before .before .before in
     let inv = call .before .before .before .before .loop .inv in
-    let step = call .state-if-new .ensures in
+    let step = call .state .ensures in
     progress-stop _ (extended-twice (inv .1) (step .extended)) (step .newest _ (inv .2 .none)) (c .if1 .taken)
 
 add-i : tie.Need-add-i Inv-loop μ-loop
@@ -65,7 +65,7 @@ loop-again c =
     let turn = call .before .before .before .before in
     let given = turn .before .before .before .before .before .args .given in
     let inv = turn .loop .inv in
-    let step = call .state-if-new .ensures in (
+    let step = call .state .ensures in (
       search needs,
       extended-twice (inv .1) (step .extended),
       record { inside = inv .2 .inside; none = c .if1 .left },
@@ -90,7 +90,7 @@ state-members-spec =
     Inv-loop
     μ-loop
     loop-holds
-    state-if-new-requires
+    state-requires
     mul-if1
     slice-read-if1
     same-length

@@ -3,13 +3,12 @@ use native.Mathlib.Omega.{arith}
 use borrow.Author.Needs.{needs}
 use denote.Ref.{now}
 use Rattle.rt0.specs.Word.{noneWords}
-use Rattle.search.proofs.Concluding.{person-within}
 use Rattle.search.proofs.Finishing.{ready, written}
 use Rattle.search.proofs.slip.write_slip.Statement.{statement}
 use Rattle.search.proofs.slip.write_slip.Tie as tie
 
 fact-number-requires : tie.Need-fact-number-requires
-fact-number-requires c κs = person-within (c .before .before .pre .0)
+fact-number-requires c κs = search needs
 
 slice-aggregate-write-steps : tie.Need-slice-aggregate-write-steps
 slice-aggregate-write-steps c = search needs
