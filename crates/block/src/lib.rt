@@ -43,17 +43,23 @@ impl RecordPlace {
     }
 }
 
-// The check that the bytes of a block have.
+// The check that the bytes of a block have, worked as the keepers do: from the last byte to the first they carry a running total,
+// and a total of those totals, which starts at 1. Two bytes to a turn, since two that are read side by side take less time.
 pub fn check(bytes: &[u8]) -> usize
     ensures { λ r. ⌜ r ≡ checkOf (now (bytes .entry)) ⌝ }
 {
-    let mut total: usize = 1;
-    let mut i: usize = 0;
-    while i < Block::CHECK_PLACE {
-        total += (i + 1) * byte(bytes, i);
-        i += 1;
+    let mut running: usize = 0;
+    let mut totals: usize = 1;
+    let mut i: usize = Block::CHECK_PLACE;
+    while 0 < i {
+        i -= 2;
+        let later = byte(bytes, i + 1);
+        let earlier = byte(bytes, i);
+        let between = running + later;
+        running = between + earlier;
+        totals += between + running;
     }
-    total % Block::MODULUS
+    totals % Block::MODULUS
 }
 
 // Whether the check that a block has differs from the one that stands in it.
