@@ -9,8 +9,8 @@ use crate::line::Tally;
 use crate::line::end_line;
 use crate::line::mark;
 use crate::word::has;
-use words::table::Table;
 use text::number;
+use words::table::Table;
 
 // The line of a person, where they are possible.
 fn member_line(text: &mut [u8], tally: Tally, person: u16, sure: bool, possible: bool) -> Tally

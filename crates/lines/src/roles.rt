@@ -11,9 +11,9 @@ use crate::line::end_line;
 use crate::line::mark;
 use crate::word::has;
 use crate::word::word_at;
-use words::table::Table;
 use text::number;
 use text::put;
+use words::table::Table;
 
 // The line of a role, where someone is possible in it.
 fn role_line(
