@@ -21,7 +21,6 @@ use Rattle.rt0.proofs.Least.{valid-head}
 use Rattle.rt0.proofs.SlipBytes.{length-linesOf}
 use Rattle.rt0.proofs.Bounds.{slip-most}
 use Rattle.records.specs.declared.form.Record.{Record}
-use Rattle.records.specs.Form.{credentialOf}
 use Rattle.bundle.specs.Layout.{recordsOf}
 use Rattle.bundle.specs.Access.{recordOf}
 use Rattle.bundle.specs.Held.{held, bookIn}
@@ -37,7 +36,7 @@ use Rattle.search.specs.declared.slip.Given.{Given}
 use Rattle.premises.specs.declared.premise.Premises.{Premises}
 use Rattle.premises.specs.Fact.{factNumber, HasLine, Backed}
 use Rattle.premises.specs.Line.{lineBy, withLine, WroteLine}
-use Rattle.premises.specs.Premise.{PremisesFor, PremisesOf, premisesBy}
+use Rattle.premises.specs.Premise.{PremisesFor, premisesBy}
 use Rattle.premises.proofs.LineBytes.{wrote-line}
 use Rattle.premises.proofs.Premises.{premises-found}
 use Rattle.search.specs.Ledger.{Ledger, Extended}

@@ -2,7 +2,6 @@
 use mathlib.Core.Path.{sym}
 use denote.Ref.{now}
 use Rattle.words.proofs.Filling.{past-end}
-use native.Mathlib.Omega.{arith}
 use borrow.Author.Needs.{needs}
 use Rattle.premises.proofs.fact.line_of.Statement.{statement}
 use Rattle.premises.proofs.fact.line_of.Tie as tie

@@ -4,7 +4,6 @@ use mathlib.Core.Path.{sym, ap, _∙_}
 use Rattle.base.proofs.Lowest.{Missed, missed-none, missed-more, lowest-hit, lowest-none}
 use Rattle.words.specs.Sizes.{mostEntities}
 use Rattle.premises.specs.Premise.{isBetween}
-use native.Mathlib.Omega.{arith}
 use borrow.Author.Needs.{needs}
 use Rattle.premises.proofs.premise.between.Statement.{statement}
 use Rattle.premises.proofs.premise.between.Tie as tie

@@ -1,5 +1,4 @@
 -- `premises::premise::is_between` meets its contract.
-use native.Mathlib.Omega.{arith}
 use borrow.Author.Needs.{needs}
 use Rattle.premises.proofs.premise.is_between.Statement.{statement}
 use Rattle.premises.proofs.premise.is_between.Tie as tie
