@@ -1,7 +1,7 @@
 """For tests in Python: calls the library through its C interface, and counts comparisons.
 
 A case is one call of the library. The harness, tests/c/harness.c, makes many calls in one run and brings back all that each
-call can change: its result, and for a search every lent word and byte. The second program answers the same cases by its own
+call can change: its result, and every word and byte that was lent. The second program answers the same cases by its own
 rules. What both write has one format, which second/exchange.rs describes.
 
 A group in Python compares as a group in bash does with tests/lib.sh: each comparison prints a line, and the last line of the
@@ -19,11 +19,11 @@ TABLE_WORDS = 512
 SLIP_BYTES = 61440
 LINE_BYTES = 8
 
-# What lent memory is filled with before a search.
+# What lent memory is filled with before a call.
 FILL_WORD = 0xA5A5A5A5
 FILL_BYTE = 0x5A
 
-SEARCH, CHECK = 0, 1
+SEARCH, CHECK, TABLES = 0, 1, 2
 YES, NO, UNSURE = 1, 2, 3
 
 HARNESS = ["./run", "--file", "target/tests/harness"]
@@ -42,6 +42,10 @@ def search(bundle, question, sure_words=TABLE_WORDS, possible_words=TABLE_WORDS,
 
 def check(bundle, question, slip):
     return Case(CHECK, bundle, question, 0, 0, len(slip), slip)
+
+
+def tables(bundle, sure_words=TABLE_WORDS, possible_words=TABLE_WORDS):
+    return Case(TABLES, bundle, (0, 0, 0), sure_words, possible_words, 0, b"")
 
 
 def case_bytes(case):

@@ -1,10 +1,10 @@
 /* The library under test, many cases in one run. Reads cases from standard input, calls the library on each through its C
- * interface, and writes to standard output what came back: the result, and for a search every lent word and byte. The second
+ * interface, and writes to standard output what came back: the result, and every word and byte that was lent. The second
  * program draws the cases and compares the answers; its file second/exchange.rs has the two formats.
  *
- * A case: kind (0 search, 1 check), group, d, a, r, then four numbers of four bytes, low byte first: bytes of the bundle, words
+ * A case: kind (0 search, 1 check, 2 tables), group, d, a, r, then four numbers of four bytes, low byte first: bytes of the bundle, words
  * of the sure and of the possible table, bytes of the slip buffer or of the slip; then the bundle, and for a check the slip.
- * Lent memory is filled before each search, so that what stays can be told from what is written. */
+ * Lent memory is filled before each call, so that what stays can be told from what is written. */
 #include "portertrunk.h"
 #include "cases.h"
 
@@ -43,6 +43,17 @@ static void check_case(const uint8_t *head, const uint8_t *bundle, uint32_t bund
     free(slip);
 }
 
+static void tables_case(const uint8_t *head, const uint8_t *bundle, uint32_t bundle_bytes) {
+    uint32_t sure_words = number(head + 9), possible_words = number(head + 13);
+    uint32_t *sure = take_words(sure_words), *possible = take_words(possible_words);
+    uint64_t result = portertrunk_tables(bundle, bundle_bytes, sure, sure_words, possible, possible_words);
+    put(&result, 8);
+    put(sure, (unsigned long)sure_words * 4);
+    put(possible, (unsigned long)possible_words * 4);
+    free(sure);
+    free(possible);
+}
+
 int main(void) {
     uint8_t head[21];
     while (fill(head, sizeof head)) {
@@ -50,8 +61,10 @@ int main(void) {
         uint8_t *bundle = take_input(bundle_bytes);
         if (head[0] == 0)
             search_case(head, bundle, bundle_bytes);
-        else
+        else if (head[0] == 1)
             check_case(head, bundle, bundle_bytes);
+        else
+            tables_case(head, bundle, bundle_bytes);
         free(bundle);
     }
     return 0;
