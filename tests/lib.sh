@@ -120,15 +120,29 @@ add_counts() { # NAME STATUS FILE
     fi
 }
 
-# Counts a failure for each must-fail edit that `rt ci` did not try: it passes over the edits of a
-# crate that is not proved or not listed, and counts them neither way.
-count_untried() { # FILE: what rt ci wrote
+# Adds one for each crate that `rt check` proved, each program of them run. Its last line is
+# `rt: ok, N crates proved`; anything else, and a crate of crates.txt that it did not count, is a failure.
+add_proved() { # STATUS FILE
+    local last listed
+    last=$(tail -n 1 "$2")
+    listed=$(grep -c '^[a-z0-9_]*:' crates.txt)
+    if [ "$1" -ne 0 ] || ! [[ $last =~ ^rt:\ ok,\ ([0-9]{1,9})\ crates\ proved$ ]]; then
+        fail "rt check: its last line is not 'rt: ok, N crates proved' (status $1)"
+    elif [ "${BASH_REMATCH[1]}" -ne "$listed" ]; then
+        fail "rt check: ${BASH_REMATCH[1]} crates proved, and crates.txt lists $listed"
+    else
+        passed=$((passed + listed))
+    fi
+}
+
+# Counts a failure for each must-fail edit that was not tried, as those of a crate that is not listed.
+count_untried() { # FILE: what tests/edits wrote
     local edit label
     for edit in crates/*/must-fail/*.edit; do
         [ -e "$edit" ] || continue
         label=${edit#crates/}
         label=${label/\/must-fail\//\/}
-        grep -q -F "rt: must-fail ${label%.edit}: " "$1" || fail "$edit: not tried"
+        grep -q -F "edit ${label%.edit}: " "$1" || fail "$edit: not tried"
     done
 }
 
