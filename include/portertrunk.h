@@ -1,6 +1,6 @@
-/* Portertrunk for C programs: is this person entitled? And bundles written and appended to.
+/* Portertrunk for C programs: is this person entitled? Bundles written and appended to, and credentials as lines of text.
  *
- * Five functions, proved for every input: any bytes at all may be lent, and each call returns. Link
+ * Seven functions, proved for every input: any bytes at all may be lent, and each call returns. Link
  * target/staticlib/libcapi.a, which `rt staticlib capi` writes (x86-64, System V calling convention).
  *
  * A slice is passed as a pointer and the number of its elements. Where that number is 0 the pointer
@@ -9,8 +9,9 @@
  * Nothing is asked of what the memory holds. What a C caller must keep is what the proof's own language
  * guarantees of every slice: that many elements stand at the pointer, and may be read; the tables are
  * aligned to 4 bytes; memory that is lent for writing (sure, possible, slip of the search and the tables;
- * bundle of write and append) may be written, overlaps no other memory of the same call, and no other thread touches it
- * meanwhile. So neither the list of records nor the record that is appended may stand in the bundle's buffer.
+ * bundle of write and append; records of read_lines, text of write_lines) may be written, overlaps no other memory of the
+ * same call, and no other thread touches it meanwhile. So neither the list of records nor the record that is appended may
+ * stand in the bundle's buffer, and a text and its records need two buffers.
  *
  * A question is three numbers: is the person d a member of the role r of the entity a?
  *
@@ -22,10 +23,10 @@
  *     bits 16 to 31  rounds   the number of rounds over the credentials held; 0 with a refusal, and from the check
  *     bits  0 to 15  lines    the lines of the slip written or accepted; 0 otherwise
  *
- * The result of write and of append holds two:
+ * The result of write, append, read_lines and write_lines holds two:
  *
  *     bits 56 to 63  number   0, or the number of a refusal
- *     bits  0 to 55  length   with number 0 the length in bytes of the bundle that now stands in the buffer
+ *     bits  0 to 55  length   with number 0 the length in bytes of what now stands at the front of the buffer
  *                    place    with a refusal where it was found
  *
  * so that with number 0 the result is the length. A list of records may be long, and its places with it: a place has
@@ -34,13 +35,14 @@
  * The refusals. The first row that applies is the answer, and the place is the lowest that applies. The rows 61 to 65 are one
  * step in that order: the place is the lowest wrong record, and of what is wrong with that record the first row is the answer.
  * Search, check and append read a bundle, and give 1 to 5 and 61 to 65 for it. Write gives 1 and 3, 61 to 65 for the records
- * of its list, 12 and 13; append gives the reader's rows, then 61 to 65 for its record, 12 and 13.
+ * of its list, 12 and 13; append gives the reader's rows, then 61 to 65 for its record, 12 and 13. Read_lines gives 3, then 14,
+ * 12 and 13; write_lines gives what write gives.
  *
- *      1  the bundle's length is 0, above 3,584 or no multiple of 512; write: the list of records is not in whole twelves;
+ *      1  the bundle's length is 0, above 3,584 or no multiple of 512; write and write_lines: the list of records is not in whole twelves;
  *         append also: the length is beyond the buffer, or the record has not twelve bytes; place 0
  *      2  the check of a block differs from the one that stands in it; place: the block, from 0
  *      3  block 0 breaks its layout: edition, entities, names, records, marks, or a byte that should be zero; write: entities
- *         not 1 to 32, names not 1 to 16, or wrong marks; place 0
+ *         not 1 to 32, names not 1 to 16, or wrong marks; read_lines and write_lines: these two numbers; place 0
  *      4  the number of blocks does not fit the number of records; place 0
  *      5  in a record block an unused place, a byte that should be zero, its number or its count is wrong; place: the block
  *     61  a record's form, its byte 0, is not 1 to 4; place: the record, from 1, in the bundle or in the list; of an append's
@@ -54,8 +56,10 @@
  *      9  the slip's length is 0, above 61,440 or no multiple of 8 (check only); place 0
  *     10  a line of the slip is not right: its credential, a premise, or what the premises state (check only); place: the line, from 1
  *     11  every line is right, and the last states another fact than the question's (check only); place 0
- *     12  a 241st record would be needed (write and append only); place 241
- *     13  the buffer is too short for the bundle (write and append only); place 0
+ *     14  a line is not right, or its record would not be valid (read_lines only); place: the first such line among the first
+ *         240, from 1
+ *     12  a 241st record would be needed, or something follows line 240 (write, append, read_lines and write_lines only); place 241
+ *     13  the buffer is too short for what is to be written (write, append, read_lines and write_lines only); place 0
  *
  * The twelve bytes of a record, from 0: the form, the issuer, a role name, and then by the form
  *
@@ -79,6 +83,8 @@ extern "C" {
 #define PORTERTRUNK_MARKS 32          /* mark bytes that a bundle is written from, one for each shelf */
 #define PORTERTRUNK_RECORD_BYTES 12   /* bytes of a record */
 #define PORTERTRUNK_BUNDLE_BYTES 3584 /* bytes of the longest bundle, which has 240 records */
+#define PORTERTRUNK_RECORDS_BYTES 2880 /* bytes of 240 records */
+#define PORTERTRUNK_TEXT_BYTES 9360   /* bytes that the lines of 240 records have at most */
 
 /* Searches. A refused call leaves every lent word and byte as it was. Otherwise the first 512 words of
  * each table are written: role r of entity a is word 16 * (a - 1) + r - 1, and the member d is bit d - 1.
@@ -112,7 +118,25 @@ uint64_t portertrunk_write(uint8_t entities, uint8_t names, const uint8_t *marks
  * would give, and every slip that was accepted before is accepted after. */
 uint64_t portertrunk_append(uint8_t *bundle, size_t bundle_bytes, size_t length, const uint8_t *record, size_t record_bytes);
 
-/* The number of a refusal, or 0, in a result of any of the four. */
+/* Reads a letter, credentials as lines of text over so many entities (1 to 32) and names (1 to 16), and stores their records,
+ * twelve bytes each, at the front of the buffer `records`. A line is one of
+ *     e2.r3 <- e3
+ *     e1.r2 <- e2.r3
+ *     e1.r1 <- e1.r2.r4
+ *     e1.r6 <- e1.r1 & e5.r5
+ *     e1.r6 <- e1.r1 & e5.r5 & e2.r2
+ * ended by a newline; nothing else is taken. No text is no records. Refusal 14 has the number of the first wrong line among
+ * the first 240, where a line without its newline is wrong too. Twelve bytes of `records` are needed for each line. Bytes past the
+ * records stay. A refused call writes nothing. */
+uint64_t portertrunk_read_lines(uint8_t entities, uint8_t names, const uint8_t *text, size_t text_bytes,
+                                uint8_t *records, size_t records_bytes);
+
+/* Writes the lines of records, twelve bytes each, at the front of the buffer `text`. Bytes past them stay. A refused call writes
+ * nothing. What is read of a letter that was written are the records it was written from, and the other way round. */
+uint64_t portertrunk_write_lines(uint8_t entities, uint8_t names, const uint8_t *records, size_t records_bytes,
+                                 uint8_t *text, size_t text_bytes);
+
+/* The number of a refusal, or 0, in a result of any of the seven. */
 static inline unsigned portertrunk_number(uint64_t result) { return (unsigned)(result >> 56); }
 
 /* The other parts of a result of the search or of the check. */
@@ -121,7 +145,7 @@ static inline unsigned portertrunk_verdict(uint64_t result) { return (unsigned)(
 static inline unsigned portertrunk_rounds(uint64_t result) { return (unsigned)(result >> 16 & 0xffff); }
 static inline unsigned portertrunk_lines(uint64_t result) { return (unsigned)(result & 0xffff); }
 
-/* The other part of a result of write or append: the length where the number is 0, and the place where it is not. */
+/* The other part of a result of write, append, read_lines or write_lines: the length where the number is 0, and the place where it is not. */
 static inline size_t portertrunk_length(uint64_t result) { return (size_t)(result & 0xffffffffffffff); }
 static inline uint64_t portertrunk_wide_place(uint64_t result) { return result & 0xffffffffffffff; }
 

@@ -15,8 +15,11 @@ use Rattle.writer.specs.Rows.{numberOf}
 use Rattle.writer.specs.Promise.{Writes, Appends}
 use Rattle.writer.proofs.Places.{write-number, write-place, append-number, append-place}
 use Rattle.writer.proofs.Determined.{writes-equal, appends-equal}
+use Rattle.letters.specs.Promise as promise
+use Rattle.letters.proofs.Determined as letter
+use Rattle.letters.proofs.Places as places
 use Rattle.writer.proofs.Lasting.{write-size, append-size}
-use Rattle.capi.specs.Written.{belowOf, packedNumbers, packedWrote, belowIn, unpackedWrote, PacksWrote, PackedWrite, PackedAppend}
+use Rattle.capi.specs.Written.{belowOf, packedNumbers, packedWrote, belowIn, unpackedWrote, PacksWrote, PackedAnswer, PackedWrite, PackedAppend, PackedReadLines, PackedWriteLines}
 
 -- From the numbers that were packed to the answer.
 
@@ -60,13 +63,17 @@ module _ (Promised : Wrote → Type 0) (lengths : (m : ℕ) → Promised (Length
       let (some, small) = refusals number place h in
       subst Promised (sym (refusal-back number place result some small p)) h
 
+-- an answer that keeps a promise, packed
+pub packed-answer : (Promised : Wrote → Type 0) (answer : Wrote) (result : ℕ) → PacksWrote answer result → Promised answer → PackedAnswer Promised result
+packed-answer Promised answer result p h = record { answer = answer; keeps = h; packs = p }
+
+-- two results are the same number where two answers that keep their promises are equal
+pub packed-same : (One Two : Wrote → Type 0) (one two : ℕ) (p : PackedAnswer One one) (q : PackedAnswer Two two) → p .answer ≡ q .answer → one ≡ two
+packed-same One Two one two p q same = p .packs .packing ∙ ap (λ (w : Wrote). packedWrote w) same ∙ sym (q .packs .packing)
+
 -- A write.
 
 module _ (E R : ℕ) (marks list before : List ℕ) where
-  pub packed-write : (after : List ℕ) (answer : Wrote) (result : ℕ) → PacksWrote answer result → Writes E R marks list before answer after
-      → PackedWrite E R marks list before after result
-  packed-write after answer result p h = record { answer = answer; writes = h; packs = p }
-
   pub unpacked-write : (after : List ℕ) (result : ℕ) → length list < 2 ^ 56 → PackedWrite E R marks list before after result
       → Writes E R marks list before (unpackedWrote result) after
   unpacked-write after result small p =
@@ -76,22 +83,18 @@ module _ (E R : ℕ) (marks list before : List ℕ) where
         write-number E R marks list before after number place h,
         omega (arith, write-place E R marks list before after number place h (2 ^ 56 - 1) (omega arith) (omega arith)),
       ))
-      (p .answer) result (p .writes) (p .packs)
+      (p .answer) result (p .keeps) (p .packs)
 
   -- two results are the same number, and leave the same buffer
   pub writes-same : (after other : List ℕ) (one two : ℕ) → PackedWrite E R marks list before after one → PackedWrite E R marks list before other two
       → (one ≡ two) × (after ≡ other)
   writes-same after other one two p q =
-      let (same, left) = writes-equal E R marks list before (p .answer) (q .answer) after other (p .writes) (q .writes) in
-      (p .packs .packing ∙ ap (λ (w : Wrote). packedWrote w) same ∙ sym (q .packs .packing), left)
+      let (same, left) = writes-equal E R marks list before (p .answer) (q .answer) after other (p .keeps) (q .keeps) in
+      (packed-same _ _ one two p q same, left)
 
 -- An append.
 
 module _ (before : List ℕ) (n : ℕ) (bytes : List ℕ) where
-  pub packed-append : (after : List ℕ) (answer : Wrote) (result : ℕ) → PacksWrote answer result → Appends before n bytes answer after
-      → PackedAppend before n bytes after result
-  packed-append after answer result p h = record { answer = answer; appends = h; packs = p }
-
   pub unpacked-append : (after : List ℕ) (result : ℕ) → Small before → length before < 2 ^ 56 → PackedAppend before n bytes after result
       → Appends before n bytes (unpackedWrote result) after
   unpacked-append after result bytes-small small p =
@@ -101,10 +104,38 @@ module _ (before : List ℕ) (n : ℕ) (bytes : List ℕ) where
         append-number before n bytes after number place h,
         omega (arith, append-place before n bytes after number place h bytes-small (2 ^ 56 - 1) (omega arith) (omega arith)),
       ))
-      (p .answer) result (p .appends) (p .packs)
+      (p .answer) result (p .keeps) (p .packs)
 
   pub appends-same : (after other : List ℕ) (one two : ℕ) → PackedAppend before n bytes after one → PackedAppend before n bytes other two
       → (one ≡ two) × (after ≡ other)
   appends-same after other one two p q =
-      let (same, left) = appends-equal before n bytes (p .answer) (q .answer) after other (p .appends) (q .appends) in
-      (p .packs .packing ∙ ap (λ (w : Wrote). packedWrote w) same ∙ sym (q .packs .packing), left)
+      let (same, left) = appends-equal before n bytes (p .answer) (q .answer) after other (p .keeps) (q .keeps) in
+      (packed-same _ _ one two p q same, left)
+
+-- Letters.
+
+pub unpacked-lines-read : (E R : ℕ) (text before after : List ℕ) (result : ℕ) → PackedReadLines E R text before after result
+    → promise.Reads E R text before (unpackedWrote result) after
+unpacked-lines-read E R text before after result p =
+    unpacked-keeps (λ answer. promise.Reads E R text before answer after) (λ m h. omega (arith, places.read-length E R text before after m h))
+    (λ number place h. let (some, near) = places.read-place E R text before after number place h in (some, omega arith)) (p .answer) result (p .keeps)
+    (p .packs)
+
+pub unpacked-lines-written : (E R : ℕ) (list before after : List ℕ) (result : ℕ) → length list < 2 ^ 56 → PackedWriteLines E R list before after result
+    → promise.Writes E R list before (unpackedWrote result) after
+unpacked-lines-written E R list before after result small p =
+    unpacked-keeps (λ answer. promise.Writes E R list before answer after) (λ m h. omega (arith, places.write-length E R list before after m h))
+    (λ number place h. let (some, near) = places.write-place E R list before after number place h in (some, omega arith)) (p .answer) result (p .keeps)
+    (p .packs)
+
+pub lines-read-same : (E R : ℕ) (text before after other : List ℕ) (one two : ℕ) → PackedReadLines E R text before after one
+    → PackedReadLines E R text before other two → (one ≡ two) × (after ≡ other)
+lines-read-same E R text before after other one two p q =
+    let (same, left) = letter.reads-equal E R text before (p .answer) (q .answer) after other (p .keeps) (q .keeps) in
+    (packed-same _ _ one two p q same, left)
+
+pub lines-written-same : (E R : ℕ) (list before after other : List ℕ) (one two : ℕ) → PackedWriteLines E R list before after one
+    → PackedWriteLines E R list before other two → (one ≡ two) × (after ≡ other)
+lines-written-same E R list before after other one two p q =
+    let (same, left) = letter.writes-equal E R list before (p .answer) (q .answer) after other (p .keeps) (q .keeps) in
+    (packed-same _ _ one two p q same, left)

@@ -1,4 +1,5 @@
--- The packed answers of the writer: the number of a refusal, or 0, and below it the place of the refusal, or the length of the bundle.
+-- The packed answers of the writer and of letters: the number of a refusal, or 0, and below it the place of the refusal, or the number of bytes
+-- that were written.
 use Prim.Native.Nat.{ℕ, _+_, _*_, _%_, _^_, _<_}
 use mathlib.Core.Path.{_≡_}
 use mathlib.Core.Bool.{cond}
@@ -9,6 +10,7 @@ use Rattle.writer.specs.declared.answer.Wrote.{Wrote}
 use Rattle.writer.specs.declared.answer.Wrote.the-variants.{Length, Refused}
 use Rattle.writer.specs.Rows.{numberOf}
 use Rattle.writer.specs.Promise.{Writes, Appends}
+use Rattle.letters.specs.Promise as letter
 
 -- what stands below the number: the length, or the place of the refusal
 abbrev pub belowOf : Wrote → ℕ
@@ -35,14 +37,22 @@ pub record PacksWrote (answer : Wrote) (result : ℕ) : Type 0 where
   pub packing : result ≡ packedWrote answer
   pub fits : numberOf answer < 2 ^ 8
 
--- the result is the answer to a write, packed
-pub record PackedWrite (E R : ℕ) (marks list before after : List ℕ) (result : ℕ) : Type 0 where
+-- the result is an answer that keeps a promise, packed
+pub record PackedAnswer (Promised : Wrote → Type 0) (result : ℕ) : Type 0 where
   pub answer : Wrote
-  pub writes : Writes E R marks list before answer after
+  pub keeps : Promised answer
   pub packs : PacksWrote answer result
 
--- the result is the answer to an append, packed
-pub record PackedAppend (before : List ℕ) (n : ℕ) (bytes after : List ℕ) (result : ℕ) : Type 0 where
-  pub answer : Wrote
-  pub appends : Appends before n bytes answer after
-  pub packs : PacksWrote answer result
+-- to a write, and to an append
+abbrev pub PackedWrite : ℕ → ℕ → List ℕ → List ℕ → List ℕ → List ℕ → ℕ → Type 0
+PackedWrite E R marks list before after result = PackedAnswer (λ answer. Writes E R marks list before answer after) result
+
+abbrev pub PackedAppend : List ℕ → ℕ → List ℕ → List ℕ → ℕ → Type 0
+PackedAppend before n bytes after result = PackedAnswer (λ answer. Appends before n bytes answer after) result
+
+-- to reading a letter, and to writing one
+abbrev pub PackedReadLines : ℕ → ℕ → List ℕ → List ℕ → List ℕ → ℕ → Type 0
+PackedReadLines E R text before after result = PackedAnswer (λ answer. letter.Reads E R text before answer after) result
+
+abbrev pub PackedWriteLines : ℕ → ℕ → List ℕ → List ℕ → List ℕ → ℕ → Type 0
+PackedWriteLines E R list before after result = PackedAnswer (λ answer. letter.Writes E R list before answer after) result

@@ -1,15 +1,17 @@
-// The library for C: the search, the tables, the check and the writer under plain names, each with one packed number as its answer.
+// The library for C: the search, the tables, the check, the writer and letters under plain names, each with one packed number as its answer.
 // include/portertrunk.h says in words what is lent and what comes back.
 ghost use Rattle.bundle.specs.Question.{question};
 ghost use Rattle.search.specs.Promise.{lent};
 ghost use Rattle.tables.specs.Promise.{tables};
 ghost use Rattle.capi.specs.Packed.{PackedPromise, PackedTables, PackedCheck};
-ghost use Rattle.capi.specs.Written.{PackedWrite, PackedAppend};
+ghost use Rattle.capi.specs.Written.{PackedWrite, PackedAppend, PackedReadLines, PackedWriteLines};
 use crate::pack::pack_wrote;
 use answers::pack::pack;
 use answers::pack::pack_answer;
 use checker::check::Checked;
 use checker::check::check;
+use letters::read::read_lines;
+use letters::write::write_lines;
 use search::search;
 use tables::Filled;
 use tables::fill;
@@ -81,4 +83,30 @@ pub extern "C" fn portertrunk_append(bundle: &mut [u8], length: usize, record: &
     ensures { λ w. ⌜ PackedAppend (now (bundle .entry)) length (now («record» .entry)) (now (bundle .exit)) w ⌝ }
 {
     pack_wrote(append(bundle, length, record))
+}
+
+// The packed answer to reading a letter.
+#[no_mangle]
+pub extern "C" fn portertrunk_read_lines(
+    entities: u8,
+    names: u8,
+    text: &[u8],
+    records: &mut [u8],
+) -> u64
+    ensures { λ w. ⌜ PackedReadLines entities names (now (text .entry)) (now (records .entry)) (now (records .exit)) w ⌝ }
+{
+    pack_wrote(read_lines(entities, names, text, records))
+}
+
+// The packed answer to writing one.
+#[no_mangle]
+pub extern "C" fn portertrunk_write_lines(
+    entities: u8,
+    names: u8,
+    records: &[u8],
+    text: &mut [u8],
+) -> u64
+    ensures { λ w. ⌜ PackedWriteLines entities names (now (records .entry)) (now (text .entry)) (now (text .exit)) w ⌝ }
+{
+    pack_wrote(write_lines(entities, names, records, text))
 }

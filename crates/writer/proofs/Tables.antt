@@ -30,8 +30,9 @@ use Rattle.bundle.proofs.Accepted.{accepted-contents}
 use Rattle.bundle.proofs.Determined.{reads-refused}
 use Rattle.content.specs.Content.{mostEntities, mostNames, marksWrong, listed, wholeRecords}
 use Rattle.writer.specs.declared.answer.Wrote.{Wrote}
+use Rattle.writer.specs.declared.judge.Flaw.{Flaw}
 use Rattle.writer.specs.declared.answer.Wrote.the-variants.{Length, Refused}
-use Rattle.writer.specs.Rows.{JudgedAs, roomRows, wrongListed, LowestListed, listRows, HeadWrong, headWrong, writeRows, newRows, frontRecords, appendRows}
+use Rattle.writer.specs.Rows.{JudgedAs, roomRows, wrongListed, LowestListed, listRows, FlawOf, HeadWrong, headWrong, writeRows, newRows, frontRecords, appendRows}
 
 -- Both calls, at last: more than 240 records, and a buffer that is too short.
 
@@ -99,7 +100,7 @@ module _ (E R : ℕ) (list : List ℕ) where
   none : Missed wrong (wholeRecords list) → (k : ℕ) → Applies (row (61 + k) (FromOne (LowestListed E R list k))) → ⊥
   none m k (p, (j, e, a)) = missed-no wrong (wholeRecords list) j m (a .lowest-wrong)
 
-  list-clear : Missed wrong (wholeRecords list) → Clear (listRows E R list)
+  pub list-clear : Missed wrong (wholeRecords list) → Clear (listRows E R list)
   list-clear m = (none m 0, (none m 1, (none m 2, (none m 3, (none m 4, tt)))))
 
   pub clear-list : Clear (listRows E R list) → Missed wrong (wholeRecords list)
@@ -109,26 +110,38 @@ module _ (E R : ℕ) (list : List ℕ) where
       by (yes l) = absurd (due-clear (listRows E R list) _ _ c (list-due _ (lowest-there wrong (wholeRecords list) l)))
       by (no l) = λ j b. lowest-is wrong (wholeRecords list) .missed j (omega arith)
 
-  list-places : AllOnePlace (listRows E R list)
+  pub list-places : AllOnePlace (listRows E R list)
   list-places = (one 0, (one 1, (one 2, (one 3, (one 4, tt)))))
     where
       one : (k p q : ℕ) → (j : ℕ) × (p ≡ suc j) × LowestListed E R list k j → (j : ℕ) × (q ≡ suc j) × LowestListed E R list k j → p ≡ q
       one k p q (i, e, a) (j, f, b) = e ∙ ap suc (lowest-place wrong (wholeRecords list) i j (a .lowest-wrong) (b .lowest-wrong)) ∙ sym f
 
-  list-numbers : AllNumbered (listRows E R list)
+  pub list-numbers : AllNumbered (listRows E R list)
   list-numbers = (omega arith, (omega arith, (omega arith, (omega arith, (omega arith, tt)))))
 
   -- what the code found
-  pub list-refused : (ss : List Row) (m i number : ℕ) → i ≡ lowest wrong (wholeRecords list) → i < wholeRecords list
-      → number ≡ kindNumber (mistakeKind E R (listed list i)) → JudgedAs (listRows E R list ++ ss) (Refused number (i + 1)) m
-  list-refused ss m i number e l f =
+  pub list-flaw : (i number : ℕ) → i ≡ lowest wrong (wholeRecords list) → i < wholeRecords list
+      → number ≡ kindNumber (mistakeKind E R (listed list i)) → FlawOf E R list (record { number = number; place = i + 1 })
+  list-flaw i number e l f =
       let there : LowestBelow wrong (wholeRecords list) i = rw e (lowest-there wrong (wholeRecords list) (rw (← e) l)) in
-      refused (due-first (listRows E R list) ss number (i + 1) (rw f (list-due i there))) refl
+      refused (rw f (list-due i there)) tt
 
-  pub list-passed : (ss : List Row) (m i : ℕ) (r : Wrote) → i ≡ lowest wrong (wholeRecords list) → wholeRecords list ≤ i
+  pub list-right : (i : ℕ) → i ≡ lowest wrong (wholeRecords list) → wholeRecords list ≤ i → FlawOf E R list (record { number = 0; place = 0 })
+  list-right i e l = passed refl refl (list-clear (λ j b. lowest-is wrong (wholeRecords list) .missed j (omega (arith, e)))) tt
+
+  -- a flaw in front of other rows, and none
+  pub list-refused : (ss : List Row) (m : ℕ) (flaw : Flaw) → FlawOf E R list flaw → (flaw .number ≡ 0 → ⊥)
+      → JudgedAs (listRows E R list ++ ss) (Refused (flaw .number) (flaw .place)) m
+  list-refused ss m flaw h some =
+      let (d, _) = judged-refused (listRows E R list) list-places list-numbers h (omega arith) in
+      refused (due-first (listRows E R list) ss (flaw .number) (flaw .place) d) refl
+
+  pub list-none : (flaw : Flaw) → FlawOf E R list flaw → flaw .number ≡ 0 → Clear (listRows E R list)
+  list-none flaw h e = judged-given (listRows E R list) list-places list-numbers h e .0
+
+  pub list-passed : (ss : List Row) (m : ℕ) (flaw : Flaw) (r : Wrote) → FlawOf E R list flaw → flaw .number ≡ 0
       → JudgedAs ss r m → JudgedAs (listRows E R list ++ ss) r m
-  list-passed ss m i r e l h =
-      judged-behind (listRows E R list) ss (list-clear (λ j b. lowest-is wrong (wholeRecords list) .missed j (omega (arith, e)))) h
+  list-passed ss m flaw r h e j = judged-behind (listRows E R list) ss (list-none flaw h e) j
 
 -- A new bundle.
 

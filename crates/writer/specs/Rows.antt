@@ -13,6 +13,7 @@ use Rattle.bundle.specs.Layout.{entitiesOf, namesOf, recordsOf, blocksFor}
 use Rattle.bundle.specs.Rows.{readerRows}
 use Rattle.content.specs.Content.{mostEntities, mostNames, mostRecords, marksWrong, listed, wholeRecords}
 use Rattle.writer.specs.declared.answer.Wrote.{Wrote}
+use Rattle.writer.specs.declared.judge.Flaw.{Flaw}
 use Rattle.writer.specs.declared.answer.Wrote.the-variants.{Length, Refused}
 
 -- the paper's number and place of an answer, and the length that it says
@@ -61,6 +62,10 @@ listRows E R list =
     ∷ row 64 (FromOne (LowestListed E R list 3))
     ∷ row 65 (FromOne (LowestListed E R list 4))
     ∷ []
+
+-- what is wrong with a list of records: the row that is due, or nothing where none applies
+abbrev pub FlawOf : ℕ → ℕ → List ℕ → Flaw → Type 0
+FlawOf E R list flaw = Judged (listRows E R list) (flaw .number) (flaw .place) (Unit {0}) (Unit {0})
 
 -- E or R out of range, or wrong marks
 abbrev pub HeadWrong : ℕ → ℕ → List ℕ → Type 0

@@ -8,7 +8,7 @@ ghost use Rattle.records.specs.Mistake.{mistakeKind, kindNumber, recordWrong};
 ghost use Rattle.bundle.specs.Layout.{blocksFor};
 ghost use Rattle.bundle.specs.Rows.{Reads};
 ghost use Rattle.content.specs.Content.{markWrong, marksWrong, listed, wholeRecords};
-ghost use Rattle.writer.specs.Rows.{headWrong, roomRows, listRows, writeRows, newRows, appendRows, wrongListed, JudgedAs, frontRecords};
+ghost use Rattle.writer.specs.Rows.{headWrong, roomRows, listRows, writeRows, newRows, appendRows, wrongListed, FlawOf, JudgedAs, frontRecords};
 use crate::answer::Wrote;
 use base::byte;
 use base::outside;
@@ -117,20 +117,43 @@ fn lowest_wrong(entities: usize, names: usize, records: &[u8]) -> usize
     i
 }
 
+// What is wrong with a list of records: the paper's number and place, 0 and 0 for nothing.
+pub struct Flaw {
+    pub number: u8,
+    pub place: usize,
+}
+
+// The lowest wrong record of a list, and what is wrong with it.
+pub fn flaw_of(entities: usize, names: usize, records: &[u8]) -> Flaw
+    ensures { λ r. ⌜ FlawOf entities names (now (records .entry)) r ⌝ }
+{
+    let i = lowest_wrong(entities, names, records);
+    if i < records.len() / Block::RECORD_SIZE {
+        Flaw {
+            number: mistake_at(entities, names, records, i),
+            place: i + 1,
+        }
+    } else {
+        Flaw {
+            number: 0,
+            place: 0,
+        }
+    }
+}
+
 // The records of a list, and then whether there is room.
 fn judge_list(entities: usize, names: usize, records: &[u8], size: usize) -> Wrote
     ensures { λ r. ⌜ JudgedAs (listRows entities names (now (records .entry)) ++ roomRows (wholeRecords (now (records .entry))) size) r
         (512 * blocksFor (wholeRecords (now (records .entry)))) ⌝ }
 {
-    let count = records.len() / Block::RECORD_SIZE;
-    let i = lowest_wrong(entities, names, records);
-    if i < count {
+    let flaw = flaw_of(entities, names, records);
+    if flaw.number != 0 {
         return Wrote::Refused {
-            number: mistake_at(entities, names, records, i),
-            place: i + 1,
+            number: flaw.number,
+            place: flaw.place,
         };
     }
-    judge_room(count, size)
+    judge_room(records.len() / Block::RECORD_SIZE, size)
 }
 
 // What a new bundle is to be written from, for a buffer of so many bytes.

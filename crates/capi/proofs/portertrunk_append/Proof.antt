@@ -1,6 +1,6 @@
 -- `capi::portertrunk_append` meets its contract.
 use borrow.Author.Needs.{needs}
-use Rattle.capi.proofs.Written.{packed-append}
+use Rattle.capi.proofs.Written.{packed-answer}
 use Rattle.capi.proofs.portertrunk_append.Statement.{statement}
 use Rattle.capi.proofs.portertrunk_append.Tie as tie
 
@@ -14,7 +14,7 @@ same-length : tie.Need-same-length
 same-length c = search needs
 
 returns : tie.Need-returns
-returns c = packed-append _ _ _ _ _ _ (c .pack-wrote .ensures) (c .before .before .before .append .ensures)
+returns c = packed-answer _ _ _ (c .pack-wrote .ensures) (c .before .before .before .append .ensures)
 
 pub portertrunk-append-spec : {M : Type 1} → statement M
 portertrunk-append-spec = tie.close (tie.spec append-requires pack-wrote-requires same-length returns)

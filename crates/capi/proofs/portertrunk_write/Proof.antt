@@ -1,6 +1,6 @@
 -- `capi::portertrunk_write` meets its contract.
 use borrow.Author.Needs.{needs}
-use Rattle.capi.proofs.Written.{packed-write}
+use Rattle.capi.proofs.Written.{packed-answer}
 use Rattle.capi.proofs.portertrunk_write.Statement.{statement}
 use Rattle.capi.proofs.portertrunk_write.Tie as tie
 
@@ -14,7 +14,7 @@ same-length : tie.Need-same-length
 same-length c = search needs
 
 returns : tie.Need-returns
-returns c = packed-write _ _ _ _ _ _ _ _ (c .pack-wrote .ensures) (c .before .before .before .write .ensures)
+returns c = packed-answer _ _ _ (c .pack-wrote .ensures) (c .before .before .before .write .ensures)
 
 pub portertrunk-write-spec : {M : Type 1} → statement M
 portertrunk-write-spec = tie.close (tie.spec write-requires pack-wrote-requires same-length returns)
