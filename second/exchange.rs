@@ -15,6 +15,47 @@ use crate::membership::Table;
 use crate::service::{check, search, Lent, Question, TABLE_WORDS};
 use std::io::{self, Read, Write};
 
+/// What every case of a library function starts with: one byte kind, one byte
+/// group, three bytes more, and four numbers of four bytes, low byte first.
+pub struct Head {
+    pub kind: u8,
+    pub group: u8,
+    pub letters: [u8; 3],
+    pub numbers: [u32; 4],
+}
+
+impl Head {
+    pub fn write(&self, file: &mut impl Write) -> io::Result<()> {
+        file.write_all(&[self.kind, self.group])?;
+        file.write_all(&self.letters)?;
+        let mut numbers = self.numbers.iter();
+        numbers.try_for_each(|number| file.write_all(&number.to_le_bytes()))
+    }
+
+    /// The head of the next case of a file, or nothing at its end.
+    pub fn read(file: &mut impl Read) -> io::Result<Option<Head>> {
+        let Some(kind) = first_byte(file)? else {
+            return Ok(None);
+        };
+        let letters = read_bytes(file, 4)?;
+        let mut numbers = [0; 4];
+        for number in &mut numbers {
+            *number = read_number(file)? as u32;
+        }
+        Ok(Some(Head {
+            kind,
+            group: letters[0],
+            letters: [letters[1], letters[2], letters[3]],
+            numbers,
+        }))
+    }
+
+    /// The four numbers as lengths.
+    pub fn lengths(&self) -> [usize; 4] {
+        self.numbers.map(|number| number as usize)
+    }
+}
+
 pub const FILL_WORD: u32 = 0xA5A5_A5A5;
 pub const FILL_BYTE: u8 = 0x5A;
 
@@ -72,35 +113,38 @@ impl Case {
             ),
         };
         let asked = self.question;
-        file.write_all(&[kind, self.group, asked.member, asked.entity, asked.name])?;
-        let lengths = [self.bundle.len(), lent.sure_words, lent.possible_words];
-        for length in lengths.into_iter().chain([lent.slip_bytes]) {
-            file.write_all(&(length as u32).to_le_bytes())?;
-        }
+        let lengths = [lent.sure_words, lent.possible_words, lent.slip_bytes];
+        let [sure, possible, slip] = lengths.map(|length| length as u32);
+        let head = Head {
+            kind,
+            group: self.group,
+            letters: [asked.member, asked.entity, asked.name],
+            numbers: [self.bundle.len() as u32, sure, possible, slip],
+        };
+        head.write(file)?;
         file.write_all(&self.bundle)?;
         file.write_all(self.slip())
     }
 
     /// The next case of a file, or nothing at its end.
     pub fn read(file: &mut impl Read) -> io::Result<Option<Case>> {
-        let Some(kind) = first_byte(file)? else {
+        let Some(head) = Head::read(file)? else {
             return Ok(None);
         };
-        let letters = read_bytes(file, 4)?;
-        let bundle_bytes = read_number(file)?;
-        let lent = Lent {
-            sure_words: read_number(file)?,
-            possible_words: read_number(file)?,
-            slip_bytes: read_number(file)?,
-        };
+        let [bundle_bytes, sure_words, possible_words, slip_bytes] = head.lengths();
+        let [member, entity, name] = head.letters;
         let bundle = read_bytes(file, bundle_bytes)?;
-        let task = match kind {
-            0 => Task::Search(lent),
-            _ => Task::Check(read_bytes(file, lent.slip_bytes)?),
+        let task = match head.kind {
+            0 => Task::Search(Lent {
+                sure_words,
+                possible_words,
+                slip_bytes,
+            }),
+            _ => Task::Check(read_bytes(file, slip_bytes)?),
         };
         Ok(Some(Case {
-            group: letters[0],
-            question: Question::about((letters[2], letters[3], letters[1])),
+            group: head.group,
+            question: Question::about((entity, name, member)),
             bundle,
             task,
         }))

@@ -2,6 +2,7 @@
 //! working out membership held against each other.
 
 use crate::damage::{chosen_mistakes, mistaken_record};
+use crate::desk_figures::try_desk;
 use crate::forge::{self, Ground};
 use crate::house::{
     full, house, house_slip, house_without_5, longest_chain, longest_walk, one, over,
@@ -17,6 +18,7 @@ use crate::reader::{
 use crate::service::{ask, check, Answer, Question};
 use crate::shape::{self, Draft};
 use crate::slip::{bytes_of, check_slip, lines_of, write_slip, LINE};
+use crate::text_figures::try_text;
 use crate::writer_figures::try_writer;
 
 /// Counts what was asked and tells what came out otherwise.
@@ -52,6 +54,8 @@ pub fn try_figures() -> bool {
     try_first_mistakes(&mut tally);
     try_writer(&mut tally);
     try_lists(&mut tally);
+    try_text(&mut tally);
+    try_desk(&mut tally);
     for seed in 0..400 {
         try_mistaken_records(&mut tally, seed);
         try_membership(&mut tally, seed);

@@ -5,21 +5,26 @@
 //! to agree or disagree with it on many inputs, valid and damaged.
 //!
 //! Commands, each of the first four with the kind of cases behind it:
-//! `draw` for searches and checks, `draw-writes` for the writer, `draw-lists`
-//! for the programs that print lists.
+//! `draw` for searches and checks, `draw-writes` for the writer, `draw-lines`
+//! for text lines, `draw-lists` for the programs that print lists, and
+//! `draw-desk` for the desk's two programs.
 //!   draw SEED COUNT FILE     write that many cases to a file
 //!   compare CASES ANSWERS    compare answers with this program's own
 //!   answer CASES ANSWERS     write this program's own answers
 //!   survey CASES             count the expected outcomes of each group
-//!   run-lists CASES ANSWERS COMMAND
+//!   run-lists CASES ANSWERS COMMAND, run-desk CASES ANSWERS COMMAND
 //!                            write the answers of the programs under test,
 //!                            each started by the command and its name
-//!   ask, members, roles      answer standard input as that program does
+//!   ask, members, roles, bundle_from_lines, lines_from_bundle
+//!                            answer standard input as that program does
 //!   house DIRECTORY          write the named bundles as files
 //!   figures                  try the figures of the specification
 
 mod comparison;
 mod damage;
+mod desk;
+mod desk_draw;
+mod desk_figures;
 mod draw;
 mod exchange;
 mod figures;
@@ -39,6 +44,11 @@ mod run;
 mod service;
 mod shape;
 mod slip;
+mod text;
+mod text_draw;
+mod text_exchange;
+mod text_figures;
+mod text_flaws;
 mod writer;
 mod writer_draw;
 mod writer_exchange;
@@ -46,19 +56,26 @@ mod writer_figures;
 mod writer_run;
 
 use comparison::Exchange;
+use desk::{BUNDLE_FROM_LINES, LINES_FROM_BUNDLE};
+use desk_draw::Desk;
 use exchange::Case;
 use list_draw::Lists;
 use lists::{MEMBERS, ROLES};
-use program::ASK;
-use program_exchange::ProgramCase;
+use program::{Program, ASK};
+use program_exchange::{ProgramCase, ProgramSet};
 use std::env;
 use std::io;
 use std::process::ExitCode;
+use text_exchange::TextCase;
 use writer_exchange::WriterCase;
 
 const USAGE: &str = "usage: second draw[-KIND] SEED COUNT FILE | compare[-KIND] CASES ANSWERS | \
-    answer[-KIND] CASES ANSWERS | survey[-KIND] CASES | run-lists CASES ANSWERS COMMAND... | \
-    ask | members | roles | house DIRECTORY | figures; KIND is writes or lists";
+    answer[-KIND] CASES ANSWERS | survey[-KIND] CASES | run-KIND CASES ANSWERS COMMAND... | \
+    PROGRAM | house DIRECTORY | figures; KIND is writes, lines, lists or desk, for run only the \
+    last two; PROGRAM is ask, members, roles, bundle_from_lines or lines_from_bundle";
+
+/// The programs that this one can stand for.
+const PROGRAMS: [Program; 5] = [ASK, MEMBERS, ROLES, BUNDLE_FROM_LINES, LINES_FROM_BUNDLE];
 
 fn main() -> ExitCode {
     let words: Vec<String> = env::args().skip(1).collect();
@@ -75,26 +92,40 @@ fn main() -> ExitCode {
 
 /// Does what a command says; false when something came out wrong.
 fn obey(words: &[&str]) -> io::Result<bool> {
-    match words {
-        ["ask"] => ASK.answer_input()?,
-        ["members"] => MEMBERS.answer_input()?,
-        ["roles"] => ROLES.answer_input()?,
-        ["run-lists", cases, answers, command @ ..] if !command.is_empty() => {
-            program_exchange::run::<Lists>(cases, answers, command)?
-        }
-        ["house", directory] => house::write_files(directory)?,
-        ["figures"] => return Ok(figures::try_figures()),
-        [command, rest @ ..] => match command.split_once('-') {
-            None => return obey_with_cases::<Case>(command, rest),
-            Some((command, "lists")) => {
-                return obey_with_cases::<ProgramCase<Lists>>(command, rest)
-            }
-            Some((command, "writes")) => return obey_with_cases::<WriterCase>(command, rest),
-            _ => return Err(io::Error::other(USAGE)),
-        },
-        _ => return Err(io::Error::other(USAGE)),
+    let [command, rest @ ..] = words else {
+        return Err(io::Error::other(USAGE));
+    };
+    let program = PROGRAMS.iter().find(|program| program.name == *command);
+    match (program, *command, rest) {
+        (Some(program), _, []) => program.answer_input()?,
+        (_, "house", [directory]) => house::write_files(directory)?,
+        (_, "figures", []) => return Ok(figures::try_figures()),
+        _ => return obey_with_kind(command, rest),
     }
     Ok(true)
+}
+
+/// Does what a command says whose kind of cases stands behind it.
+fn obey_with_kind(command: &str, words: &[&str]) -> io::Result<bool> {
+    match command.split_once('-') {
+        None => obey_with_cases::<Case>(command, words),
+        Some((command, "writes")) => obey_with_cases::<WriterCase>(command, words),
+        Some((command, "lines")) => obey_with_cases::<TextCase>(command, words),
+        Some((command, "lists")) => obey_with_programs::<Lists>(command, words),
+        Some((command, "desk")) => obey_with_programs::<Desk>(command, words),
+        _ => Err(io::Error::other(USAGE)),
+    }
+}
+
+/// Does what a command says with inputs of a set of programs.
+fn obey_with_programs<S: ProgramSet>(command: &str, words: &[&str]) -> io::Result<bool> {
+    match (command, words) {
+        ("run", [cases, answers, command @ ..]) if !command.is_empty() => {
+            program_exchange::run::<S>(cases, answers, command)?;
+            Ok(true)
+        }
+        _ => obey_with_cases::<ProgramCase<S>>(command, words),
+    }
 }
 
 /// Does what a command says with cases of one kind.

@@ -17,8 +17,8 @@ use crate::reader::{
     PRESENT, RECORD, RECORDS_END, RECORDS_IN_BLOCK, RECORD_COUNT_PLACE,
 };
 
-const MARKS: usize = MOST_ENTITIES as usize;
-const MOST_RECORDS: usize = MOST_CREDENTIALS as usize;
+pub const MARKS: usize = MOST_ENTITIES as usize;
+pub const MOST_RECORDS: usize = MOST_CREDENTIALS as usize;
 
 /// What a bundle is written from, right or wrong.
 #[derive(Clone, Debug, PartialEq, Eq)]
@@ -32,7 +32,7 @@ pub struct Content {
 /// Writes a bundle to the start of a buffer and gives its length in bytes.
 pub fn write(content: &Content, buffer: &mut [u8]) -> Result<usize, Refusal> {
     let bundle = read_content(content)?;
-    put(&bundle, buffer)
+    put(&bytes_of_bundle(&bundle), buffer)
 }
 
 /// Adds a record to the bundle that stands in the first `length` bytes of a
@@ -44,7 +44,7 @@ pub fn append(buffer: &mut [u8], length: u64, record: &[u8]) -> Result<usize, Re
     refuse_record(bundle.entities, bundle.names, record, place)?;
     refuse_count(place)?;
     bundle.credentials.push(read_record(record));
-    put(&bundle, buffer)
+    put(&bytes_of_bundle(&bundle), buffer)
 }
 
 /// The result of either function as one number: the length, or the number of
@@ -77,31 +77,41 @@ fn read_content(content: &Content) -> Result<Bundle, Refusal> {
     } = *content;
     refuse_list(&content.records)?;
     let absent = read_first(content).ok_or(Refusal::new(3, 0))?;
-    let records = content.records.chunks(RECORD);
-    for (place, record) in (1..).zip(records.clone()) {
-        refuse_record(entities, names, record, place)?;
-    }
-    refuse_count(records.len())?;
+    let credentials = read_list(entities, names, &content.records)?;
     Ok(Bundle {
         entities,
         names,
         absent,
-        credentials: records.map(read_record).collect(),
+        credentials,
     })
+}
+
+/// Reads a list of whole records; refuses 61 to 65, 12.
+pub fn read_list(entities: u8, names: u8, records: &[u8]) -> Result<Vec<Credential>, Refusal> {
+    let records = records.chunks(RECORD);
+    for (place, record) in (1..).zip(records.clone()) {
+        refuse_record(entities, names, record, place)?;
+    }
+    refuse_count(records.len())?;
+    Ok(records.map(read_record).collect())
 }
 
 /// The absent shelves, or nothing when a number or a mark is wrong.
 fn read_first(content: &Content) -> Option<std::collections::BTreeSet<u8>> {
-    let sizes_right = (1..=MOST_ENTITIES).contains(&content.entities)
-        && (1..=MOST_NAMES).contains(&content.names)
-        && content.marks.len() == MARKS;
-    if !sizes_right {
+    let Content {
+        entities, names, ..
+    } = *content;
+    if !sizes_right(entities, names) || content.marks.len() != MARKS {
         return None;
     }
-    read_marks(&content.marks, content.entities)
+    read_marks(&content.marks, entities)
 }
 
-fn refuse_list(records: &[u8]) -> Result<(), Refusal> {
+pub fn sizes_right(entities: u8, names: u8) -> bool {
+    (1..=MOST_ENTITIES).contains(&entities) && (1..=MOST_NAMES).contains(&names)
+}
+
+pub fn refuse_list(records: &[u8]) -> Result<(), Refusal> {
     let whole = records.len() % RECORD == 0;
     whole.then_some(()).ok_or(Refusal::new(1, 0))
 }
@@ -122,18 +132,17 @@ fn refuse_record(entities: u8, names: u8, record: &[u8], place: usize) -> Result
     }
 }
 
-fn refuse_count(records: usize) -> Result<(), Refusal> {
+pub fn refuse_count(records: usize) -> Result<(), Refusal> {
     let room = records <= MOST_RECORDS;
     room.then_some(()).ok_or(Refusal::new(12, MOST_RECORDS + 1))
 }
 
-/// Writes the bytes of a bundle to the start of a buffer, or refuses 13.
-fn put(bundle: &Bundle, buffer: &mut [u8]) -> Result<usize, Refusal> {
-    let bytes = bytes_of_bundle(bundle);
+/// Writes bytes to the start of a buffer, or refuses 13.
+pub fn put(bytes: &[u8], buffer: &mut [u8]) -> Result<usize, Refusal> {
     if buffer.len() < bytes.len() {
         return Err(Refusal::new(13, 0));
     }
-    buffer[..bytes.len()].copy_from_slice(&bytes);
+    buffer[..bytes.len()].copy_from_slice(bytes);
     Ok(bytes.len())
 }
 

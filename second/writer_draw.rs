@@ -13,6 +13,7 @@ use crate::shape::{self, Draft, Record};
 use crate::slip::{bytes_of, Line};
 use crate::writer::{length_with, Content};
 use crate::writer_exchange::{Addition, Call, WriterCase};
+use std::ops::Range;
 
 pub const WRITER_GROUPS: [Group<WriterCase>; 18] = [
     group("written-lists", 6, written_lists),
@@ -35,8 +36,11 @@ pub const WRITER_GROUPS: [Group<WriterCase>; 18] = [
     group("slips-by-the-new-record", 2, slips_by_the_new_record),
 ];
 
+/// The places of the groups that write a list.
+pub const LISTS: Range<usize> = 0..9;
+
 /// Numbers of records that fit, around the places where a block fills up.
-const FITTING: [usize; 9] = [0, 1, 39, 40, 41, 80, 200, 239, 240];
+pub const FITTING: [usize; 9] = [0, 1, 39, 40, 41, 80, 200, 239, 240];
 
 /// Numbers of records in a list that is to be refused, too many among them.
 const ANY_COUNT: [usize; 10] = [1, 39, 40, 41, 80, 239, 240, 241, 250, 300];
@@ -70,7 +74,7 @@ pub fn content_of(draft: &Draft) -> Content {
 
 /// So many bytes that stand in a buffer before a call: one byte throughout,
 /// bytes drawn by lot, or the blocks of some other bundle.
-fn pattern(random: &mut Random, length: usize) -> Vec<u8> {
+pub fn pattern(random: &mut Random, length: usize) -> Vec<u8> {
     match random.below(6) {
         0 => vec![0; length],
         1 => vec![255; length],
@@ -213,7 +217,7 @@ fn wrong_sizes(random: &mut Random, turn: usize) -> WriterCase {
 }
 
 /// Puts E or R out of range, or out of step with the marks.
-fn spoil_sizes(random: &mut Random, turn: usize, content: &mut Content) {
+pub fn spoil_sizes(random: &mut Random, turn: usize, content: &mut Content) {
     match turn % 9 {
         0 => content.entities = 0,
         1 => content.entities = 33,
@@ -240,7 +244,7 @@ fn wrong_marks(random: &mut Random, turn: usize) -> WriterCase {
 }
 
 /// Changes a mark, or the number of marks.
-fn spoil_marks(random: &mut Random, turn: usize, content: &mut Content) {
+pub fn spoil_marks(random: &mut Random, turn: usize, content: &mut Content) {
     let last = usize::from(content.entities) - 1;
     let some = random.below(last + 1);
     let above = random.between(last, 31);

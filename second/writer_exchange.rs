@@ -22,8 +22,7 @@
 //! An answer: eight bytes with the result, low byte first, of a chain with the
 //! last result; for 5 the three results in turn; then the buffer, whole.
 
-use crate::comparison::first_byte;
-use crate::exchange::{read_bytes, read_number};
+use crate::exchange::{read_bytes, Head};
 use crate::reader::RECORD;
 use crate::service::{check, Question};
 use crate::writer::{append, packed, write, Content};
@@ -62,7 +61,7 @@ impl WriterCase {
     }
 
     /// How many results a call brings back.
-    fn results(&self) -> usize {
+    pub fn results(&self) -> usize {
         if matches!(self.call, Call::Slip(..)) {
             3
         } else {
@@ -71,76 +70,71 @@ impl WriterCase {
     }
 
     pub fn write(&self, file: &mut impl Write) -> io::Result<()> {
-        let buffer = self.buffer.len() as u64;
-        let (kind, letters, numbers, handed) = match &self.call {
+        let (kind, letters, [first, second, third], handed) = match &self.call {
             Call::Write(content) => list_parts(2, content, 0),
             Call::Append(addition) => {
                 let Addition { length, record } = addition;
-                let numbers = [record.len() as u64, *length, *length >> 32];
+                let numbers = [record.len() as u32, *length as u32, (*length >> 32) as u32];
                 (3, [0; 3], numbers, vec![&record[..]])
             }
             Call::Chain(content, first) => list_parts(4, content, *first),
             Call::Slip(asked, addition, slip) => {
                 let Addition { length, record } = addition;
                 let letters = [asked.member, asked.entity, asked.name];
-                let numbers = [record.len() as u64, *length, slip.len() as u64];
+                let numbers = [record.len() as u32, *length as u32, slip.len() as u32];
                 (5, letters, numbers, vec![&record[..], slip])
             }
         };
-        file.write_all(&[kind, self.group])?;
-        file.write_all(&letters)?;
-        for number in [buffer].iter().chain(&numbers) {
-            file.write_all(&(*number as u32).to_le_bytes())?;
-        }
+        let head = Head {
+            kind,
+            group: self.group,
+            letters,
+            numbers: [self.buffer.len() as u32, first, second, third],
+        };
+        head.write(file)?;
         file.write_all(&self.buffer)?;
         handed.iter().try_for_each(|bytes| file.write_all(bytes))
     }
 
     /// The next case of a file, or nothing at its end.
     pub fn read(file: &mut impl Read) -> io::Result<Option<WriterCase>> {
-        let Some(kind) = first_byte(file)? else {
+        let Some(head) = Head::read(file)? else {
             return Ok(None);
         };
-        let letters = read_bytes(file, 4)?;
-        let mut numbers = [0; 4];
-        for number in &mut numbers {
-            *number = read_number(file)?;
-        }
-        let buffer = read_bytes(file, numbers[0])?;
-        let handed = read_bytes(file, numbers[1])?;
-        let call = match kind {
-            2 => Call::Write(read_list(file, &letters, handed, numbers[2])?),
+        let lengths = head.lengths();
+        let buffer = read_bytes(file, lengths[0])?;
+        let handed = read_bytes(file, lengths[1])?;
+        let call = match head.kind {
+            2 => Call::Write(read_list(file, &head, handed)?),
             3 => Call::Append(Addition {
-                length: numbers[2] as u64 | (numbers[3] as u64) << 32,
+                length: u64::from(head.numbers[2]) | u64::from(head.numbers[3]) << 32,
                 record: handed,
             }),
-            4 => {
-                let content = read_list(file, &letters, handed, numbers[2])?;
-                Call::Chain(content, numbers[3])
-            }
+            4 => Call::Chain(read_list(file, &head, handed)?, lengths[3]),
             _ => {
-                let question = Question::about((letters[2], letters[3], letters[1]));
-                let length = numbers[2] as u64;
+                let [member, entity, name] = head.letters;
+                let length = u64::from(head.numbers[2]);
                 let record = handed;
-                let slip = read_bytes(file, numbers[3])?;
+                let slip = read_bytes(file, lengths[3])?;
+                let question = Question::about((entity, name, member));
                 Call::Slip(question, Addition { length, record }, slip)
             }
         };
         Ok(Some(WriterCase {
-            group: letters[0],
+            group: head.group,
             buffer,
             call,
         }))
     }
 }
 
-type Parts<'a> = (u8, [u8; 3], [u64; 3], Vec<&'a [u8]>);
+type Parts<'a> = (u8, [u8; 3], [u32; 3], Vec<&'a [u8]>);
 
 /// The parts of a case that hands over a list of records.
 fn list_parts(kind: u8, content: &Content, first: usize) -> Parts<'_> {
     let letters = [content.entities, content.names, 0];
     let lengths = [content.marks.len(), content.records.len(), first];
-    let numbers = lengths.map(|length| length as u64);
+    let numbers = lengths.map(|length| length as u32);
     (
         kind,
         letters,
@@ -149,17 +143,13 @@ fn list_parts(kind: u8, content: &Content, first: usize) -> Parts<'_> {
     )
 }
 
-fn read_list(
-    file: &mut impl Read,
-    letters: &[u8],
-    marks: Vec<u8>,
-    records: usize,
-) -> io::Result<Content> {
+/// Reads the records of a case that hands over a list.
+fn read_list(file: &mut impl Read, head: &Head, marks: Vec<u8>) -> io::Result<Content> {
     Ok(Content {
-        entities: letters[1],
-        names: letters[2],
+        entities: head.letters[0],
+        names: head.letters[1],
         marks,
-        records: read_bytes(file, records)?,
+        records: read_bytes(file, head.lengths()[2])?,
     })
 }
 
@@ -179,16 +169,18 @@ impl WriterCame {
         file.write_all(&self.buffer)
     }
 
-    /// Reads the answer to a case; its length follows from the case.
-    pub fn read(file: &mut impl Read, case: &WriterCase) -> io::Result<WriterCame> {
-        let mut results = vec![0; case.results()];
-        for result in &mut results {
+    /// Reads an answer of so many results and so many bytes of buffer.
+    pub fn read(file: &mut impl Read, results: usize, buffer: usize) -> io::Result<WriterCame> {
+        let mut packed = vec![0; results];
+        for result in &mut packed {
             let mut bytes = [0; 8];
             file.read_exact(&mut bytes)?;
             *result = u64::from_le_bytes(bytes);
         }
-        let buffer = read_bytes(file, case.buffer.len())?;
-        Ok(WriterCame { results, buffer })
+        Ok(WriterCame {
+            results: packed,
+            buffer: read_bytes(file, buffer)?,
+        })
     }
 }
 

@@ -46,7 +46,7 @@ impl Exchange for WriterCase {
     }
 
     fn read_answer(&self, file: &mut impl Read) -> io::Result<WriterCame> {
-        WriterCame::read(file, self)
+        WriterCame::read(file, self.results(), self.buffer.len())
     }
 
     fn own_answer(&self) -> WriterCame {
@@ -54,7 +54,7 @@ impl Exchange for WriterCase {
     }
 
     fn agree(&self, expected: &WriterCame, came: &WriterCame) -> Result<(), String> {
-        agree(expected, came)
+        agree_results(expected, came)
     }
 
     /// What the call gave, the calls apart from each other.
@@ -122,7 +122,7 @@ fn checked(result: u64) -> String {
 }
 
 /// The result of a write or an append in words, and the place of a refusal.
-fn written(result: u64) -> (String, usize) {
+pub fn written(result: u64) -> (String, usize) {
     match unpacked(result) {
         Ok(_) => ("written".to_string(), 0),
         Err(refusal) => (format!("refused {:2}", refusal.number), refusal.place),
@@ -130,7 +130,7 @@ fn written(result: u64) -> (String, usize) {
 }
 
 /// Says nothing when the answer that came is right, else what is wrong.
-fn agree(expected: &WriterCame, came: &WriterCame) -> Result<(), String> {
+pub fn agree_results(expected: &WriterCame, came: &WriterCame) -> Result<(), String> {
     if expected.results != came.results {
         let words = |results: &[u64]| -> Vec<String> {
             let all = results.iter();

@@ -4,9 +4,9 @@
 # A group reads tests/lib.sh, then this file, and gives
 #
 #     work                 a temporary folder
-#     kind                 the kind of its cases, as it stands behind the second program's commands: '', -writes or -lists
+#     kind                 the kind of its cases, as it stands behind the second program's commands, with a dash, or ''
 #     groups               how many groups of cases there are
-#     outcomes             what the cases must reach, as patterns of grep -E; a wrong record at several places
+#     outcomes             what the cases must reach, as patterns of grep -E; a wrong record or line at several places
 #     compare SEED COUNT   a function that compares so many cases and prints what the second program says: tests/compare or
 #                          one like it
 
@@ -37,7 +37,7 @@ compare_drawn() { # SEED COUNT
 
 reached() { # NAME OUTCOME
     local line least=1
-    case $2 in *6[1-5]) least=5 ;; esac
+    case $2 in *6[1-5] | *14) least=5 ;; esac
     line=$(grep -E "^outcome: $2: " "$work/said")
     if [[ $line =~ :\ ([1-9][0-9]*)\ cases,\ different\ places:\ ([0-9]+)$ ]] && [ "${BASH_REMATCH[2]}" -ge "$least" ]; then
         pass "$1: ${line#outcome: }"

@@ -1,8 +1,9 @@
-"""For tests in Python: calls the library's writer through its C interface, and the second program's.
+"""For tests in Python: calls the library's functions that write to a lent buffer through their C interface, and the second
+program's: the writer's, and those of tests/lines.py.
 
-A case is one call, or a few that belong together, with the lent buffer as it stands before. tests/c/write_harness.c makes the
-calls and brings back their results and the buffer after them; the second program answers the same cases by its own rules. What
-both write has one format, which second/writer_exchange.rs describes.
+A case is one call, or a few that belong together, with the lent buffer as it stands before. A harness, as
+tests/c/write_harness.c, makes the calls and brings back their results and the buffer after them; the second program answers the
+same cases by its own rules. What both write has one format, which second/writer_exchange.rs describes.
 """
 
 import struct
@@ -15,7 +16,6 @@ from library import SECOND
 
 WRITE, APPEND, CHAIN, SLIP = 2, 3, 4, 5
 RECORD_BYTES = 12
-HARNESS = ["./run", "--file", "target/tests/write_harness"]
 
 
 # ---- cases: the kind, three bytes, three numbers besides the buffer's, the buffer, and what else is handed over
@@ -77,17 +77,103 @@ def answers_in(content, cases):
         raise ValueError("more answers than cases")
 
 
-def call(cases):
-    """What the library answers to each case."""
-    content = b"".join(map(case_bytes, cases))
-    done = subprocess.run(HARNESS, input=content, stdout=subprocess.PIPE, check=True)
-    return list(answers_in(done.stdout, cases))
+# ---- those who are asked: each answers cases, and has a name
+
+Who = namedtuple("Who", "name call")
 
 
-def call_second(cases):
-    """What the second program answers to each case."""
-    with tempfile.TemporaryDirectory() as folder:
-        asked, came = Path(folder) / "cases", Path(folder) / "answers"
-        asked.write_bytes(b"".join(map(case_bytes, cases)))
-        subprocess.run([SECOND, "answer-writes", asked, came], check=True)
-        return list(answers_in(came.read_bytes(), cases))
+def library(harness):
+    """The library, called by the harness of this name."""
+
+    def call(cases):
+        content = b"".join(map(case_bytes, cases))
+        program = ["./run", "--file", f"target/tests/{harness}"]
+        done = subprocess.run(program, input=content, stdout=subprocess.PIPE, check=True)
+        return list(answers_in(done.stdout, cases))
+
+    return Who("library", call)
+
+
+def second_program(command):
+    """The second program, which answers this kind of cases by its command of this name."""
+
+    def call(cases):
+        with tempfile.TemporaryDirectory() as folder:
+            asked, came = Path(folder) / "cases", Path(folder) / "answers"
+            asked.write_bytes(b"".join(map(case_bytes, cases)))
+            subprocess.run([SECOND, command, asked, came], check=True)
+            return list(answers_in(came.read_bytes(), cases))
+
+    return Who("second program", call)
+
+
+def ask_everyone(tally, parts, command, harness, others=(), *needed):
+    """Runs the parts of a group with the second program and with the library, and then others once; they may need more."""
+    tally.needs("second", harness, *needed)
+    asked = [second_program(command), library(harness)]
+
+    def part_for(part, who):
+        def run(tally):
+            part(tally, who)
+
+        run.__name__ = f"{who.name}: {part.__name__}"
+        return run
+
+    tally.run([part_for(part, who) for who in asked for part in parts] + list(others))
+    tally.finish()
+
+
+# ---- comparing: each case has a name, and what must come back
+
+
+def compare(tally, who, cases):
+    answers = who.call([case for _, case, _ in cases])
+    for (name, _, expected), answer in zip(cases, answers):
+        tally.note(f"{who.name}: {name}", tuple(answer) == expected, f"expected {expected[0]}", f"came     {answer.results}")
+
+
+def leads_to(buffer, content):
+    """What must come of a call that leaves this content in a buffer: its length, and the rest of the buffer as it was."""
+    return (written(len(content)),), content + buffer[len(content) :]
+
+
+def stays(name, case, number, place):
+    """A refused case: the result, and the buffer as it was."""
+    return name, case, ((refused(number, place),), case.buffer)
+
+
+# ---- what cases are made of
+
+
+def record(*used):
+    """The twelve bytes of a record, from its bytes with trailing zeros left off."""
+    return bytes(used) + bytes(RECORD_BYTES - len(used))
+
+
+def buffer_of(length, content=b""):
+    """A buffer with some content in it, and a pattern behind."""
+    pattern = bytes(range(1, 252)) * (length // 251 + 1)
+    return content + pattern[len(content) : length]
+
+
+# ---- stored bundles
+
+BUNDLES = Path("tests/data/bundles")
+READER_ANSWERS = Path("tests/data/expected-reader")
+
+
+def stored(name):
+    return (BUNDLES / name).read_bytes()
+
+
+def stored_answers(word):
+    """The names of the stored bundles whose answer starts with this word, each with the numbers that follow."""
+    lines = [line.split() for line in READER_ANSWERS.read_text().splitlines()]
+    return [(line[0], *map(int, line[2:])) for line in lines if line[1:2] == [word]]
+
+
+def content_of(bundle):
+    """What a bundle says, read off its bytes."""
+    blocks = [bundle[start : start + 512] for start in range(512, len(bundle), 512)]
+    records = b"".join(block[: RECORD_BYTES * block[509]] for block in blocks)
+    return Content(bundle[1], bundle[2], bundle[4:36], records)
