@@ -4,7 +4,7 @@ use Prim.Native.Nat.{ℕ, _<_, _≤_}
 use native.Mathlib.Omega.{arith}
 use mathlib.Core.Path.{_≡_, refl}
 use mathlib.Core.List.{List, []}
-use lib.ListN.{length, take}
+use lib.ListN.{length, take, length-append}
 use lib.IntN.{ℤ}
 use Rattle.answers.specs.Line.{capacity, Holds}
 use Rattle.answers.specs.declared.line.Text.{Text}
@@ -32,7 +32,7 @@ module _ (Shows : (List ℕ → Type 0) → Type 0) (problem : Text) (Prints : L
 -- every input longer than some bound may have this line, and the buffer is no shorter than that
 pub prints-every-longer : (Prints : List ℕ → List ℕ → Type 0) (buffer : List ℕ) (longest : ℕ) (line : List ℕ)
     → ((input : List ℕ) → longest < length input → Prints input line) → longest ≤ length buffer → PrintsLonger Prints buffer line
-prints-every-longer Prints buffer longest line prints room input longer = prints input (omega arith)
+prints-every-longer Prints buffer longest line prints room more some = prints _ (omega (arith, length-append buffer more))
 
 -- where a text holds the output
 module _ (Prints : List ℕ → List ℕ → Type 0) (unreadable : List ℕ) (got : Input) (buffer : List ℕ) (said : Said) where

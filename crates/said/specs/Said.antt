@@ -2,7 +2,7 @@
 -- said once for every program: which bytes may be printed for an input, and the message where it cannot be read, are parameters.
 use Prim.Native.Nat.{ℕ, _<_}
 use mathlib.Core.Path.{_≡_}
-use mathlib.Core.List.{List, []}
+use mathlib.Core.List.{List, [], _++_}
 use lib.ListN.{length, take}
 use Rattle.answers.specs.declared.line.Text.{Text}
 use Rattle.answers.specs.Line.{Holds}
@@ -25,9 +25,9 @@ pub record HoldsAllowed (Allowed : List ℕ → Type 0) (text : Text) : Type 0 w
 abbrev pub Read : Input → List ℕ → Type 0
 Read got buffer = (before : List ℕ) × Filled before buffer got
 
--- bytes that may be printed for every input longer than this buffer
+-- bytes that may be printed for every input longer than this buffer, which holds its first bytes
 abbrev pub PrintsLonger : (List ℕ → List ℕ → Type 0) → List ℕ → List ℕ → Type 0
-PrintsLonger Prints buffer shown = (input : List ℕ) → length buffer < length input → Prints input shown
+PrintsLonger Prints buffer shown = (more : List ℕ) → 0 < length more → Prints (buffer ++ more) shown
 
 -- What is rightly said of the buffer, whatever holds the output: Shows says of bytes that may be printed that it holds such bytes. The whole
 -- input: bytes that may be printed for it. An input longer than the buffer: bytes that may be printed for every such input. A read failed: no
