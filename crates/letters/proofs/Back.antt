@@ -18,7 +18,8 @@ use Rattle.spelling.specs.Line.{RightLine}
 use Rattle.letters.specs.Lines.{textOf, recordsOf, credentialsIn, lineCount, lineAt}
 use Rattle.letters.specs.Rows.{outOfRange, readRows, textRows, writeRows}
 use Rattle.letters.specs.Promise.{Stored, Reads, Writes}
-use Rattle.letters.proofs.Clear.{range-tells, in-range, ReadClear, clear-read, WriteClear, clear-write}
+use Rattle.letters.proofs.Reading.{range-tells, in-range}
+use Rattle.letters.proofs.Clear.{ReadClear, clear-read, WriteClear, clear-write}
 use Rattle.letters.proofs.Texts.{text-count, text-one, front-right, records-size}
 use Rattle.letters.proofs.Listed.{count-back, credentials-back, records-right, valid-listed, records-listed}
 use Rattle.letters.proofs.Kept.{read-numbers, write-numbers}

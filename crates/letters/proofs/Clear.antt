@@ -6,24 +6,15 @@ use mathlib.Core.Path.{_≡_, refl}
 use mathlib.Core.Bool.{false}
 use mathlib.Core.List.{List}
 use lib.ListN.{length}
-use Rattle.base.specs.Range.{outside}
 use Rattle.base.specs.Refusals.{AtPlace, AtZero, Clear}
-use Rattle.base.proofs.Flags.{Tells, or-tells, outside-tells, or-false, inside, not-true-false}
+use Rattle.base.proofs.Flags.{not-true-false}
 use Rattle.base.proofs.Lowest.{Missed}
-use Rattle.content.specs.Content.{mostEntities, mostNames, wholeRecords}
+use Rattle.content.specs.Content.{wholeRecords}
 use Rattle.writer.specs.Rows.{wrongListed}
 use Rattle.writer.proofs.Tables.{clear-list}
 use Rattle.letters.specs.Lines.{textOf, credentialsIn, lineCount}
 use Rattle.letters.specs.Rows.{OutOfRange, outOfRange, readRows, writeRows}
-
--- E and R are out of range exactly if the test says so; in range, they have one digit or two
-pub range-tells : (E R : ℕ) → Tells (outOfRange E R) (OutOfRange E R)
-range-tells E R = or-tells _ _ (outside-tells mostEntities E) (outside-tells mostNames R)
-
-pub in-range : (E R : ℕ) → outOfRange E R ≡ false → (E < 100) × (R < 100)
-in-range E R h =
-    let (e, r) = or-false (outside mostEntities E) (outside mostNames R) h in
-    (omega (arith, inside mostEntities E e), omega (arith, inside mostNames R r))
+use Rattle.letters.proofs.Reading.{range-tells}
 
 -- one row that does not apply
 range-clear : (E R : ℕ) → ((p : ℕ) × AtZero (OutOfRange E R) p → ⊥) → outOfRange E R ≡ false

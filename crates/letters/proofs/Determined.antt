@@ -13,7 +13,8 @@ use Rattle.letters.specs.Lines.{textOf, recordsOf, credentialsIn}
 use Rattle.letters.specs.Rows.{readRows, writeRows}
 use Rattle.letters.specs.Promise.{front, Stored, Letter, Reads, Writes}
 use Rattle.letters.proofs.Texts.{text-one}
-use Rattle.letters.proofs.Clear.{in-range, clear-read}
+use Rattle.letters.proofs.Reading.{in-range}
+use Rattle.letters.proofs.Clear.{clear-read}
 use Rattle.letters.proofs.Kept.{read-places, read-numbers, write-places, write-numbers}
 
 -- a refusal is told by its number and place

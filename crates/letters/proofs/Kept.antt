@@ -16,7 +16,8 @@ use Rattle.writer.proofs.Tables.{list-places, list-numbers}
 use Rattle.letters.specs.Lines.{textOf, recordsOf, credentialsIn, linesOf, lineCount, candidatesOf}
 use Rattle.letters.specs.Rows.{FirstWrong, readRows, textRows, writeRows}
 use Rattle.letters.specs.Promise.{Says, JudgedText, Reads, Writes}
-use Rattle.letters.proofs.Clear.{in-range, ReadClear, clear-read, WriteClear, clear-write}
+use Rattle.letters.proofs.Reading.{in-range}
+use Rattle.letters.proofs.Clear.{ReadClear, clear-read, WriteClear, clear-write}
 use Rattle.letters.proofs.Texts.{text-count, records-size}
 use Rattle.letters.proofs.Filling.{candidates-are}
 

@@ -19,7 +19,8 @@ use Rattle.spelling.proofs.Lengths.{line-short}
 use Rattle.letters.specs.Lines.{textOf, recordsOf, credentialsIn, lineCount}
 use Rattle.letters.specs.Rows.{readRows, writeRows}
 use Rattle.letters.specs.Promise.{Reads, Writes}
-use Rattle.letters.proofs.Clear.{in-range, clear-read, WriteClear, clear-write}
+use Rattle.letters.proofs.Reading.{in-range}
+use Rattle.letters.proofs.Clear.{clear-read, WriteClear, clear-write}
 use Rattle.letters.proofs.Texts.{text-count, records-size}
 use Rattle.letters.proofs.Listed.{valid-listed}
 use Rattle.letters.proofs.Kept.{no-both, read-numbers, write-numbers}

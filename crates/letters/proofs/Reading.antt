@@ -1,4 +1,4 @@
--- A text judged line by line: what is known where a line begins, how it goes on there, and the three ways in which it ends.
+-- A text judged: E and R first, then line by line. What is known where a line begins, how it goes on there, and the three ways in which it ends.
 use Prim.Native.Nat.{ℕ, _+_, _-_, _*_, _<_, _≤_}
 use native.Mathlib.Omega.{arith}
 use native.Mathlib.Numerals.{add-one}
@@ -9,16 +9,17 @@ use mathlib.Core.List.{List, [], _∷_, _++_, append-assoc, append-nil}
 use lib.ListN.{length, getD, take, drop, length-append, take-append-drop, drop-of-length-le}
 use lib.Seq.{drop-drop}
 use Rattle.rt0.specs.Credential.{Credential, AllValid}
+use Rattle.base.specs.Range.{outside}
 use Rattle.base.specs.Refusals.{AtPlace, FromOne, refused, passed}
-use Rattle.base.proofs.Flags.{clash-flag}
+use Rattle.base.proofs.Flags.{Tells, or-tells, outside-tells, or-false, inside, clash-flag}
 use Rattle.base.proofs.Judging.{judged-more}
+use Rattle.content.specs.Content.{mostEntities, mostNames}
 use Rattle.writer.specs.declared.answer.Wrote.{Wrote}
 use Rattle.writer.specs.declared.answer.Wrote.the-variants.{Length, Refused}
 use Rattle.spelling.specs.Line.{lineOf, RightLine}
 use Rattle.letters.specs.Lines.{textOf, lineCount, lineAt, firstLength}
-use Rattle.letters.specs.Rows.{outOfRange, FirstWrong, roomRows, lineRows, readRows}
+use Rattle.letters.specs.Rows.{OutOfRange, outOfRange, FirstWrong, roomRows, lineRows, readRows}
 use Rattle.letters.specs.Promise.{Says, Letter, JudgedText}
-use Rattle.letters.proofs.Clear.{range-tells}
 use Rattle.letters.proofs.Cut.{next-line, no-line}
 use Rattle.letters.proofs.Texts.{valid-none, valid-last, text-last, front-count, front-next, front-right}
 
@@ -129,7 +130,15 @@ room-short lines size l = refused (inl (refl, (refl, l))) tt
 pub room-enough : (lines size : ℕ) → 12 * lines ≤ size → Says (roomRows lines size) (Length (12 * lines)) (12 * lines)
 room-enough lines size l = passed refl refl (λ (_, (_, short)). omega arith, tt) refl
 
--- E and R
+-- E and R: out of range exactly if the test says so; in range, they have one digit or two
+pub range-tells : (E R : ℕ) → Tells (outOfRange E R) (OutOfRange E R)
+range-tells E R = or-tells _ _ (outside-tells mostEntities E) (outside-tells mostNames R)
+
+pub in-range : (E R : ℕ) → outOfRange E R ≡ false → (E < 100) × (R < 100)
+in-range E R h =
+    let (e, r) = or-false (outside mostEntities E) (outside mostNames R) h in
+    (omega (arith, inside mostEntities E e), omega (arith, inside mostNames R r))
+
 module _ (E R : ℕ) (text : List ℕ) (size : ℕ) where
   pub text-range : outOfRange E R ≡ true → JudgedText (readRows E R text size) E R text (Refused 3 0)
   text-range h = refused (inl (refl, (refl, range-tells E R .0 h))) tt

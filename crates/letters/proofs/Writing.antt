@@ -22,7 +22,7 @@ use Rattle.spelling.proofs.Lengths.{line-short}
 use Rattle.letters.specs.Lines.{textOf, credentialsIn, countedBytes, ShortLines}
 use Rattle.letters.specs.Rows.{outOfRange, textRows, writeRows}
 use Rattle.letters.specs.Promise.{Says}
-use Rattle.letters.proofs.Clear.{range-tells, in-range}
+use Rattle.letters.proofs.Reading.{range-tells, in-range}
 use Rattle.letters.proofs.Filling.{counted-all}
 
 module _ (list : List ℕ) (size : ℕ) where

@@ -2,8 +2,7 @@
 use mathlib.Core.Path.{sym, _∙_}
 use denote.Ref.{now}
 use borrow.Author.Needs.{needs}
-use Rattle.letters.proofs.Clear.{in-range}
-use Rattle.letters.proofs.Reading.{text-range, text-in-range}
+use Rattle.letters.proofs.Reading.{in-range, text-range, text-in-range}
 use Rattle.letters.proofs.read.judge_text.Statement.{statement}
 use Rattle.letters.proofs.read.judge_text.Tie as tie
 
