@@ -1,0 +1,5 @@
+-- The type system for credential storage, over the role names. Name: the types of names. Body: of the four bodies. Typed: structurally well
+-- typed credentials, and who must store one.
+pub mod Name
+pub mod Body
+pub mod Typed
