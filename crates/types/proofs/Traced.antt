@@ -9,8 +9,8 @@ use mathlib.Core.List.{List, [], _∷_, List·Memᴰ·head, List·Memᴰ·tail, 
 use Rattle.rt0.specs.Credential.{Role, _·_, nameOf, entity, role, link, intersection, Credential, _⟵_, head, _∈_}
 use Rattle.rt0.specs.Membership.{Assignment, Gives, Member}
 use Rattle.rt0.proofs.Least.{member-closed, member-least, member-grows}
-use Rattle.types.specs.Name.{IssuerSide, issuer-traces-none, issuer-traces-def, issuer-traces-all, Types, IssuerTracesAll}
-use Rattle.types.specs.Typed.{headType, StructurallyWellTyped, AllTyped, NotTogether, NoneTogether, tracesAll, traced}
+use Rattle.types.specs.Name.{IssuerSide, issuer-traces-none, issuer-traces-def, issuer-traces-all, Types, IssuerTracesAll, tracesAll}
+use Rattle.types.specs.Typed.{headType, StructurallyWellTyped, AllTyped, NotTogether, NoneTogether, traced}
 
 -- ---- what is left
 

@@ -1,6 +1,7 @@
 -- The storage types of role names: on the issuer side one of three values, on the subject side one of two; and which names are well typed.
 use Prim.Native.Nat.{ℕ}
 use mathlib.Core.Path.{_≡_}
+use mathlib.Core.Bool.{Bool, true, false}
 use mathlib.Core.Logic.{_⊎_}
 
 -- what the issuers of roles with the name keep
@@ -45,3 +46,21 @@ WellTyped t = StronglyWellTyped t ⊎ WeaklyWellTyped t
 -- no one has to keep what defines a role with such a name
 abbrev pub IllTyped : NameType → Type 0
 IllTyped t = WellTyped t → ⊥
+
+-- Tests that compute.
+
+-- whether an issuer side is issuer-traces-all, and whether it is issuer-traces-def
+abbrev pub tracesAll : IssuerSide → Bool
+tracesAll issuer-traces-none = false
+tracesAll issuer-traces-def = false
+tracesAll issuer-traces-all = true
+
+abbrev pub tracesDef : IssuerSide → Bool
+tracesDef issuer-traces-none = false
+tracesDef issuer-traces-def = true
+tracesDef issuer-traces-all = false
+
+-- whether a subject side is subject-traces-all
+abbrev pub subjectsTrace : SubjectSide → Bool
+subjectsTrace subject-traces-none = false
+subjectsTrace subject-traces-all = true

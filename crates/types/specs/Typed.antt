@@ -2,10 +2,10 @@
 use Prim.Native.Nat.{ℕ}
 use mathlib.Core.Path.{_≡_}
 use mathlib.Core.Logic.{_⊎_}
-use mathlib.Core.Bool.{Bool, true, false, cond}
+use mathlib.Core.Bool.{cond}
 use mathlib.Core.List.{List, [], _∷_}
 use Rattle.rt0.specs.Credential.{Role, _·_, entityOf, nameOf, Body, entity, role, link, intersection, Credential, _⟵_, head, issuer, _∈_}
-use Rattle.types.specs.Name.{IssuerSide, issuer-traces-none, issuer-traces-def, issuer-traces-all, NameType, Types, IssuerTracesAll, SubjectTracesAll, WellTyped}
+use Rattle.types.specs.Name.{issuer-traces-def, NameType, Types, IssuerTracesAll, SubjectTracesAll, WellTyped, tracesAll}
 use Rattle.types.specs.Body.{BodyIssuerTracesAll, BodySubjectTracesAll, BodyWellTyped}
 
 abbrev pub bodyOf : Credential → Body
@@ -50,12 +50,6 @@ NotTogether (ρ ⟵ intersection parts) = ⊥
 
 abbrev pub NoneTogether : List Credential → Type 0
 NoneTogether cs = (c : Credential) → c ∈ cs → NotTogether c
-
--- whether an issuer side is issuer-traces-all
-abbrev pub tracesAll : IssuerSide → Bool
-tracesAll issuer-traces-none = false
-tracesAll issuer-traces-def = false
-tracesAll issuer-traces-all = true
 
 -- what is left of a list without every credential whose head's name is not issuer-traces-all
 unfoldable pub traced : Types → List Credential → List Credential
