@@ -12,7 +12,7 @@ use Rattle.types.specs.Flags.{nameTraces, wellTyped, bothTraces, partsTr
 use Rattle.types.proofs.Names.{and-tells, tells-as, TracesTold, strongly-told, name-told}
 
 -- some part is such, and every part is
-abbrev SomePart : (Role → Type 0) → List Role → Type 0
+abbrev pub SomePart : (Role → Type 0) → List Role → Type 0
 SomePart P parts = (ρ : Role) × (ρ ∈ parts) × P ρ
 
 abbrev EveryPart : (Role → Type 0) → List Role → Type 0
@@ -26,7 +26,7 @@ module _ (P : Role → Type 0) (ρ : Role) (ρs : List Role) where
       every (here, there) σ (List·Memᴰ·head e) = subst P (sym e) here
       every (here, there) σ (List·Memᴰ·tail i) = there σ i
 
-  some-more : (P ρ ⊎ SomePart P ρs) ↔ SomePart P (ρ ∷ ρs)
+  pub some-more : (P ρ ⊎ SomePart P ρs) ↔ SomePart P (ρ ∷ ρs)
   some-more = (⊎-elim (λ p. (ρ, List·Memᴰ·head refl, p)) (λ (σ, i, p). (σ, List·Memᴰ·tail i, p)), found)
     where
       found : SomePart P (ρ ∷ ρs) → P ρ ⊎ SomePart P ρs
