@@ -13,7 +13,7 @@ use crate::table::word;
 use base::outside;
 
 // The word of one entity, or 0.
-fn single(entity: usize) -> u32
+pub fn single(entity: usize) -> u32
     ensures { λ r. ⌜ r ≡ singleOf entity ⌝ }
 {
     if outside(Table::ENTITIES, entity) {
