@@ -1,6 +1,7 @@
-/* Portertrunk for C programs: is this person entitled? Bundles written and appended to, and credentials as lines of text.
+/* Portertrunk for C programs: is this person entitled? Bundles written and appended to, credentials as lines of text,
+ * and who must hold a record.
  *
- * Seven functions, proved for every input: any bytes at all may be lent, and each call returns. Link
+ * Eight functions, proved for every input: any bytes at all may be lent, and each call returns. Link
  * target/staticlib/libcapi.a, which `rt staticlib capi` writes (x86-64, System V calling convention).
  *
  * A slice is passed as a pointer and the number of its elements. Where that number is 0 the pointer
@@ -32,11 +33,18 @@
  * so that with number 0 the result is the length. A list of records may be long, and its places with it: a place has
  * 56 bits here and not 16. One of 2^56 or more would be given modulo 2^56; no address space has such a list.
  *
+ * The result of holders holds four:
+ *
+ *     bits 56 to 63  number   0, or the number of a refusal
+ *     bits 40 to 55  place    0, or where the refusal was found
+ *     bit  32        well     1 if the record is structurally well typed by the sheet, else 0
+ *     bits  0 to 31  shelves  the shelves that must hold it, A is bit A - 1; 0 unless it is well typed
+ *
  * The refusals. The first row that applies is the answer, and the place is the lowest that applies. The rows 61 to 65 are one
  * step in that order: the place is the lowest wrong record, and of what is wrong with that record the first row is the answer.
  * Search, check and append read a bundle, and give 1 to 5 and 61 to 65 for it. Write gives 1 and 3, 61 to 65 for the records
  * of its list, 12 and 13; append gives the reader's rows, then 61 to 65 for its record, 12 and 13. Read_lines gives 3, then 14,
- * 12 and 13; write_lines gives what write gives.
+ * 12 and 13; write_lines gives what write gives. Holders gives the reader's rows, then 15, then 7.
  *
  *      1  the bundle's length is 0, above 3,584 or no multiple of 512; write and write_lines: the list of records is not in whole twelves;
  *         append also: the length is beyond the buffer, or the record has not twelve bytes; place 0
@@ -51,7 +59,10 @@
  *     63  an entity of a record is 0 or above the number of entities; place: the record
  *     64  a role name of a record is 0 or above the number of names; place: the record
  *     65  a byte of a record that its form does not use is not zero; place: the record
- *      7  the question names an entity or a role name that the bundle does not have, or 0 (search and check); place 0
+ *     15  the sheet has not 512 bytes, or its check, a code, a byte that should be zero, byte 508 or its number of names is
+ *         wrong (holders only; before 7); place 0
+ *      7  the question names an entity or a role name that the bundle does not have, or 0 (search and check), or a record that
+ *         it does not have, or 0 (holders); place 0
  *      8  a lent table has fewer than 512 words (search and tables), or the slip buffer fewer than 61,440 bytes (search only); place 0
  *      9  the slip's length is 0, above 61,440 or no multiple of 8 (check only); place 0
  *     10  a line of the slip is not right: its credential, a premise, or what the premises state (check only); place: the line, from 1
@@ -85,6 +96,7 @@ extern "C" {
 #define PORTERTRUNK_BUNDLE_BYTES 3584 /* bytes of the longest bundle, which has 240 records */
 #define PORTERTRUNK_RECORDS_BYTES 2880 /* bytes of 240 records */
 #define PORTERTRUNK_TEXT_BYTES 9360   /* bytes that the lines of 240 records have at most */
+#define PORTERTRUNK_SHEET_BYTES 512   /* bytes of a sheet of storage types */
 
 /* Searches. A refused call leaves every lent word and byte as it was. Otherwise the first 512 words of
  * each table are written: role r of entity a is word 16 * (a - 1) + r - 1, and the member d is bit d - 1.
@@ -136,10 +148,16 @@ uint64_t portertrunk_read_lines(uint8_t entities, uint8_t names, const uint8_t *
 uint64_t portertrunk_write_lines(uint8_t entities, uint8_t names, const uint8_t *records, size_t records_bytes,
                                  uint8_t *text, size_t text_bytes);
 
-/* The number of a refusal, or 0, in a result of any of the seven. */
+/* Says of a record, counted from 1, whether it is structurally well typed by a sheet of storage types, and if so which shelves
+ * must hold it. A sheet is one block of 512 bytes: byte i - 1 is the code of name i, for each name of the bundle; zeros follow
+ * up to byte 507; byte 508 is 100, byte 509 the number of names, and the check stands in bytes 510 and 511 as in every block.
+ * The codes, issuer side first: 1 none and none, 2 none and all, 3 def and none, 4 def and all, 5 all and none, 6 all and all. */
+uint64_t portertrunk_holders(const uint8_t *bundle, size_t bundle_bytes, const uint8_t *sheet, size_t sheet_bytes, uint8_t record);
+
+/* The number of a refusal, or 0, in a result of any of them. */
 static inline unsigned portertrunk_number(uint64_t result) { return (unsigned)(result >> 56); }
 
-/* The other parts of a result of the search or of the check. */
+/* The other parts of a result of the search, of the tables or of the check; of holders the place alone. */
 static inline unsigned portertrunk_place(uint64_t result) { return (unsigned)(result >> 40 & 0xffff); }
 static inline unsigned portertrunk_verdict(uint64_t result) { return (unsigned)(result >> 32 & 0xff); }
 static inline unsigned portertrunk_rounds(uint64_t result) { return (unsigned)(result >> 16 & 0xffff); }
@@ -148,6 +166,10 @@ static inline unsigned portertrunk_lines(uint64_t result) { return (unsigned)(re
 /* The other part of a result of write, append, read_lines or write_lines: the length where the number is 0, and the place where it is not. */
 static inline size_t portertrunk_length(uint64_t result) { return (size_t)(result & 0xffffffffffffff); }
 static inline uint64_t portertrunk_wide_place(uint64_t result) { return result & 0xffffffffffffff; }
+
+/* The other parts of a result of holders: whether the record is structurally well typed, and the shelves that must hold it. */
+static inline unsigned portertrunk_well(uint64_t result) { return (unsigned)(result >> 32 & 1); }
+static inline uint32_t portertrunk_shelves(uint64_t result) { return (uint32_t)(result & 0xffffffff); }
 
 #ifdef __cplusplus
 }

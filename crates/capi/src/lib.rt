@@ -1,10 +1,13 @@
-// The library for C: the search, the tables, the check, the writer and letters under plain names, each with one packed number as its answer.
+// The library for C: the search, the tables, the check, the writer, letters and the holders of a record under plain names, each with one
+// packed number as its answer.
 // include/portertrunk.h says in words what is lent and what comes back.
 ghost use Rattle.bundle.specs.Question.{question};
 ghost use Rattle.search.specs.Promise.{lent};
 ghost use Rattle.tables.specs.Promise.{tables};
 ghost use Rattle.capi.specs.Packed.{PackedPromise, PackedTables, PackedCheck};
 ghost use Rattle.capi.specs.Written.{PackedWrite, PackedAppend, PackedReadLines, PackedWriteLines};
+ghost use Rattle.capi.specs.Holders.{PackedHolders};
+use crate::pack::pack_storage;
 use crate::pack::pack_wrote;
 use answers::pack::pack;
 use answers::pack::pack_answer;
@@ -13,6 +16,7 @@ use checker::check::check;
 use letters::read::read_lines;
 use letters::write::write_lines;
 use search::search;
+use storage::holders;
 use tables::Filled;
 use tables::fill;
 use writer::append::append;
@@ -109,4 +113,12 @@ pub extern "C" fn portertrunk_write_lines(
     ensures { λ w. ⌜ PackedWriteLines entities names (now (records .entry)) (now (text .entry)) (now (text .exit)) w ⌝ }
 {
     pack_wrote(write_lines(entities, names, records, text))
+}
+
+// The packed answer to who must hold a record.
+#[no_mangle]
+pub extern "C" fn portertrunk_holders(bundle: &[u8], sheet: &[u8], record: u8) -> u64
+    ensures { λ w. ⌜ PackedHolders (now (bundle .entry)) (now (sheet .entry)) «record» w ⌝ }
+{
+    pack_storage(holders(bundle, sheet, record))
 }

@@ -1,7 +1,10 @@
-// The answer of the writer as one number of 64 bits.
+// The answers of the writer and of the holders as one number of 64 bits.
 ghost use Prim.Native.Nat.{_^_, _<_};
 ghost use mathlib.Core.Path.{_≡_};
 ghost use Rattle.capi.specs.Written.{packedNumbers, PacksWrote};
+ghost use Rattle.capi.specs.Holders.{packedStorage};
+use answers::pack::pack;
+use storage::Storage;
 use writer::answer::Wrote;
 
 // A number in bits 56 to 63, and below it another modulo 2^56.
@@ -18,5 +21,20 @@ pub(crate) fn pack_wrote(answer: Wrote) -> u64
     match answer {
         Wrote::Length(length) => pack_below(0, length),
         Wrote::Refused { number, place } => pack_below(number, place),
+    }
+}
+
+// The packed number of what is said of a record: a word of shelves fills the bits of two parts.
+pub(crate) fn pack_storage(answer: Storage) -> u64
+    ensures { λ r. ⌜ r ≡ packedStorage answer ⌝ }
+{
+    match answer {
+        Storage::Held { shelves } => {
+            let high = shelves / 65536;
+            let low = shelves % 65536;
+            pack(0, 0, 1, high as u16, low as u16)
+        }
+        Storage::Ill => pack(0, 0, 0, 0, 0),
+        Storage::Refused { number, place } => pack(number, place, 0, 0, 0),
     }
 }
