@@ -17,7 +17,7 @@ mark-few : (m : Mark) → length (markText m) ≤ markBytes
 mark-few SURE = omega arith
 mark-few MAYBE = omega arith
 
-end-few : (sure maybe : ℕ) → sure < 2 ^ 16 → maybe < 2 ^ 16 → length (endText sure maybe) ≤ endLine
+pub end-few : (sure maybe : ℕ) → sure < 2 ^ 16 → maybe < 2 ^ 16 → length (endText sure maybe) ≤ endLine
 end-few sure maybe s m = simp length-append (omega (arith, five-digits sure s, five-digits maybe m))
 
 module _ {K : Type 0} where

@@ -8,10 +8,10 @@ use text::put;
 use text::word;
 
 // Where the next line goes, and how many lines of each kind are written.
-pub(crate) struct Tally {
-    pub(crate) next: usize,
-    pub(crate) sure: u16,
-    pub(crate) maybe: u16,
+pub struct Tally {
+    pub next: usize,
+    pub sure: u16,
+    pub maybe: u16,
 }
 
 // The mark behind a key that is written up to a place, and the newline; counted.
@@ -34,7 +34,7 @@ pub(crate) fn mark(text: &mut [u8], at: usize, tally: Tally, sure: bool) -> Tall
 }
 
 // The last line: the two counts.
-pub(crate) fn end_line(text: &mut [u8], tally: Tally) -> usize
+pub fn end_line(text: &mut [u8], tally: Tally) -> usize
     ensures { λ r. ⌜ Wrote (now (text .entry)) (tally .next) (endText (tally .sure) (tally .maybe)) (now (text .exit)) r ⌝ }
 {
     let worded = word(text, tally.next, b"END ");
