@@ -4,6 +4,7 @@
 use crate::damage::{chosen_mistakes, mistaken_record};
 use crate::desk_figures::try_desk;
 use crate::forge::{self, Ground};
+use crate::holder_figures::try_holders;
 use crate::house::{
     full, house, house_slip, house_without_5, longest_chain, longest_walk, one, over,
     self_contained, signer_question, GUILD, NINA, TOMAS, UPLAND,
@@ -56,6 +57,7 @@ pub fn try_figures() -> bool {
     try_lists(&mut tally);
     try_text(&mut tally);
     try_desk(&mut tally);
+    try_holders(&mut tally);
     for seed in 0..400 {
         try_mistaken_records(&mut tally, seed);
         try_membership(&mut tally, seed);

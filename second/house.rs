@@ -27,6 +27,11 @@ const STUDENT: u8 = 4;
 const MEMBER: u8 = 5;
 pub const SIGNER: u8 = 6;
 
+/// The codes of the six names under which every record of the house is well
+/// typed: reader, college and signer are kept by their issuers, and the cards
+/// accredited, student and member by those they name.
+pub const CODES: [u8; 6] = [3, 3, 2, 2, 2, 3];
+
 /// Is this person in the Archive's signer role?
 pub fn signer_question(person: u8) -> Question {
     Question::about((ARCHIVE, SIGNER, person))

@@ -6,16 +6,17 @@
 //!
 //! Commands, each of the first four with the kind of cases behind it:
 //! `draw` for searches and checks, `draw-writes` for the writer, `draw-lines`
-//! for text lines, `draw-lists` for the programs that print lists, and
-//! `draw-desk` for the desk's two programs.
+//! for text lines, `draw-holders` for the holders of a record, `draw-lists`
+//! for the programs that print lists, `draw-desk` for the desk's two programs,
+//! and `draw-holding` for the program that prints the holders of all records.
 //!   draw SEED COUNT FILE     write that many cases to a file
 //!   compare CASES ANSWERS    compare answers with this program's own
 //!   answer CASES ANSWERS     write this program's own answers
 //!   survey CASES             count the expected outcomes of each group
-//!   run-lists CASES ANSWERS COMMAND, run-desk CASES ANSWERS COMMAND
+//!   run-lists CASES ANSWERS COMMAND, and so for desk and holding
 //!                            write the answers of the programs under test,
 //!                            each started by the command and its name
-//!   ask, members, roles, bundle_from_lines, lines_from_bundle
+//!   ask, members, roles, bundle_from_lines, lines_from_bundle, holders
 //!                            answer standard input as that program does
 //!   house DIRECTORY          write the named bundles as files
 //!   figures                  try the figures of the specification
@@ -30,6 +31,11 @@ mod exchange;
 mod figures;
 mod forge;
 mod groups;
+mod holder_draw;
+mod holder_exchange;
+mod holder_figures;
+mod holder_programs;
+mod holders;
 mod house;
 mod list_draw;
 mod list_figures;
@@ -43,7 +49,10 @@ mod reader;
 mod run;
 mod service;
 mod shape;
+mod sheet;
+mod sheet_draw;
 mod slip;
+mod storage;
 mod text;
 mod text_draw;
 mod text_exchange;
@@ -59,6 +68,9 @@ use comparison::Exchange;
 use desk::{BUNDLE_FROM_LINES, LINES_FROM_BUNDLE};
 use desk_draw::Desk;
 use exchange::Case;
+use holder_exchange::HolderCase;
+use holder_programs::Holding;
+use holders::HOLDERS;
 use list_draw::Lists;
 use lists::{MEMBERS, ROLES};
 use program::{Program, ASK};
@@ -71,11 +83,19 @@ use writer_exchange::WriterCase;
 
 const USAGE: &str = "usage: second draw[-KIND] SEED COUNT FILE | compare[-KIND] CASES ANSWERS | \
     answer[-KIND] CASES ANSWERS | survey[-KIND] CASES | run-KIND CASES ANSWERS COMMAND... | \
-    PROGRAM | house DIRECTORY | figures; KIND is writes, lines, lists or desk, for run only the \
-    last two; PROGRAM is ask, members, roles, bundle_from_lines or lines_from_bundle";
+    PROGRAM | house DIRECTORY | figures; KIND is writes, lines, holders, lists, desk or holding, \
+    for run only the last three; PROGRAM is ask, members, roles, bundle_from_lines, \
+    lines_from_bundle or holders";
 
 /// The programs that this one can stand for.
-const PROGRAMS: [Program; 5] = [ASK, MEMBERS, ROLES, BUNDLE_FROM_LINES, LINES_FROM_BUNDLE];
+const PROGRAMS: [Program; 6] = [
+    ASK,
+    MEMBERS,
+    ROLES,
+    BUNDLE_FROM_LINES,
+    LINES_FROM_BUNDLE,
+    HOLDERS,
+];
 
 fn main() -> ExitCode {
     let words: Vec<String> = env::args().skip(1).collect();
@@ -111,8 +131,10 @@ fn obey_with_kind(command: &str, words: &[&str]) -> io::Result<bool> {
         None => obey_with_cases::<Case>(command, words),
         Some((command, "writes")) => obey_with_cases::<WriterCase>(command, words),
         Some((command, "lines")) => obey_with_cases::<TextCase>(command, words),
+        Some((command, "holders")) => obey_with_cases::<HolderCase>(command, words),
         Some((command, "lists")) => obey_with_programs::<Lists>(command, words),
         Some((command, "desk")) => obey_with_programs::<Desk>(command, words),
+        Some((command, "holding")) => obey_with_programs::<Holding>(command, words),
         _ => Err(io::Error::other(USAGE)),
     }
 }

@@ -231,6 +231,6 @@ pub fn read_record(record: &[u8]) -> Credential {
     }
 }
 
-fn all_zero(bytes: &[u8]) -> bool {
+pub fn all_zero(bytes: &[u8]) -> bool {
     bytes.iter().all(|byte| *byte == 0)
 }

@@ -26,7 +26,6 @@ FILL_BYTE = 0x5A
 SEARCH, CHECK, TABLES = 0, 1, 2
 YES, NO, UNSURE = 1, 2, 3
 
-HARNESS = ["./run", "--file", "target/tests/harness"]
 SECOND = "target/tests/second"
 
 
@@ -94,20 +93,29 @@ def answers_in(content, cases):
         raise ValueError("more answers than cases")
 
 
+def harness_answers(harness, content):
+    """What the harness of this name answers to cases, which are given as bytes."""
+    program = ["./run", "--file", f"target/tests/{harness}"]
+    return subprocess.run(program, input=content, stdout=subprocess.PIPE, check=True).stdout
+
+
+def second_answers(command, content):
+    """What the second program answers to cases by its command of this name."""
+    with tempfile.TemporaryDirectory() as folder:
+        asked, came = Path(folder) / "cases", Path(folder) / "answers"
+        asked.write_bytes(content)
+        subprocess.run([SECOND, command, asked, came], check=True)
+        return came.read_bytes()
+
+
 def call(cases):
     """What the library answers to each case."""
-    content = b"".join(map(case_bytes, cases))
-    done = subprocess.run(HARNESS, input=content, stdout=subprocess.PIPE, check=True)
-    return list(answers_in(done.stdout, cases))
+    return list(answers_in(harness_answers("harness", b"".join(map(case_bytes, cases))), cases))
 
 
 def call_second(cases):
     """What the second program answers to each case."""
-    with tempfile.TemporaryDirectory() as folder:
-        asked, came = Path(folder) / "cases", Path(folder) / "answers"
-        asked.write_bytes(b"".join(map(case_bytes, cases)))
-        subprocess.run([SECOND, "answer", asked, came], check=True)
-        return list(answers_in(came.read_bytes(), cases))
+    return list(answers_in(second_answers("answer", b"".join(map(case_bytes, cases))), cases))
 
 
 def untouched(answer):
@@ -189,6 +197,18 @@ class Tally:
                 part(self)
             except Exception as error:  # pylint: disable=broad-exception-caught # whatever it is, it is counted
                 self.note(f"{part.__name__} stopped", False, repr(error))
+
+    def run_for_each(self, asked, parts, others=()):
+        """Runs the parts of a group for each of those who are asked, which have names, and then others once."""
+
+        def part_for(part, who):
+            def run(tally):
+                part(tally, who)
+
+            run.__name__ = f"{who.name}: {part.__name__}"
+            return run
+
+        self.run([part_for(part, who) for who in asked for part in parts] + list(others))
 
     def finish(self):
         """Prints the last line, and ends with status 0 only where something was compared and nothing failed."""

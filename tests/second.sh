@@ -46,6 +46,17 @@ reached() { # NAME OUTCOME
     fi
 }
 
+# What the comparison said last has an outcome in so many cases or more.
+often() { # NAME OUTCOME LEAST
+    local line
+    line=$(grep -E "^outcome: $2: " "$work/said")
+    if [[ $line =~ :\ ([0-9]+)\ cases, ]] && [ "${BASH_REMATCH[1]}" -ge "$3" ]; then
+        pass "$1: $2 in $3 cases or more"
+    else
+        fail "$1: the outcome $2 in $3 cases or more: '$line'"
+    fi
+}
+
 # Draws cases from seed 1 into $work/cases, and the second program's own answers into $work/answers. They are what is spoiled
 # below, so that what fails there is the comparison, whatever the program under test answers.
 answers_to_spoil() { # COUNT

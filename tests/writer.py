@@ -7,12 +7,10 @@ same cases by its own rules. What both write has one format, which second/writer
 """
 
 import struct
-import subprocess
-import tempfile
 from collections import namedtuple
 from pathlib import Path
 
-from library import SECOND
+from library import harness_answers, second_answers
 
 WRITE, APPEND, CHAIN, SLIP = 2, 3, 4, 5
 RECORD_BYTES = 12
@@ -86,10 +84,7 @@ def library(harness):
     """The library, called by the harness of this name."""
 
     def call(cases):
-        content = b"".join(map(case_bytes, cases))
-        program = ["./run", "--file", f"target/tests/{harness}"]
-        done = subprocess.run(program, input=content, stdout=subprocess.PIPE, check=True)
-        return list(answers_in(done.stdout, cases))
+        return list(answers_in(harness_answers(harness, b"".join(map(case_bytes, cases))), cases))
 
     return Who("library", call)
 
@@ -98,11 +93,7 @@ def second_program(command):
     """The second program, which answers this kind of cases by its command of this name."""
 
     def call(cases):
-        with tempfile.TemporaryDirectory() as folder:
-            asked, came = Path(folder) / "cases", Path(folder) / "answers"
-            asked.write_bytes(b"".join(map(case_bytes, cases)))
-            subprocess.run([SECOND, command, asked, came], check=True)
-            return list(answers_in(came.read_bytes(), cases))
+        return list(answers_in(second_answers(command, b"".join(map(case_bytes, cases))), cases))
 
     return Who("second program", call)
 
@@ -110,16 +101,7 @@ def second_program(command):
 def ask_everyone(tally, parts, command, harness, others=(), *needed):
     """Runs the parts of a group with the second program and with the library, and then others once; they may need more."""
     tally.needs("second", harness, *needed)
-    asked = [second_program(command), library(harness)]
-
-    def part_for(part, who):
-        def run(tally):
-            part(tally, who)
-
-        run.__name__ = f"{who.name}: {part.__name__}"
-        return run
-
-    tally.run([part_for(part, who) for who in asked for part in parts] + list(others))
+    tally.run_for_each([second_program(command), library(harness)], parts, others)
     tally.finish()
 
 
