@@ -19,7 +19,7 @@ use Rattle.writer.specs.declared.answer.Wrote.the-variants.{Refused}
 use Rattle.writer.specs.Rows.{HeadWrong}
 use Rattle.letters.specs.Lines.{lineCount}
 use Rattle.letters.proofs.Texts.{text-count, text-one}
-use Rattle.letters.proofs.Clear.{range-tells, in-range}
+use Rattle.letters.proofs.Reading.{range-tells, in-range}
 use Rattle.letters.proofs.Kept.{read-places}
 use Rattle.answers.specs.Line.{Holds}
 use Rattle.input.specs.declared.Input.{Input}
