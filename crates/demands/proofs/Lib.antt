@@ -1,5 +1,7 @@
 -- What the promises come to. Refused: the search refuses exactly when a row of the table says so. Answered: the three words exactly as RT0
--- has them, and the slip that comes with YES. Lasting: a slip that was accepted stays so when records are appended.
+-- has them, and the slip that comes with YES. Lasting: a slip that was accepted stays so when records are appended. Traced: where all records
+-- are structurally well typed, what leaving out those that issuers need not trace does not change.
 pub mod Refused
 pub mod Answered
 pub mod Lasting
+pub mod Traced
