@@ -15,7 +15,7 @@ use Rattle.bundle.specs.Rows.{Accepts}
 use Rattle.bundle.specs.Held.{held}
 use Rattle.bundle.proofs.Accepted.{holding-sound}
 use Rattle.types.specs.Name.{IssuerTracesAll}
-use Rattle.types.specs.Typed.{StructurallyWellTyped, AllTyped, NoneTogether, traced}
+use Rattle.types.specs.Typed.{AllTyped, NoneTogether, traced}
 use Rattle.types.proofs.Traced.{traced-members}
 use Rattle.sheet.specs.Types.{typesBy}
 use Rattle.storage.specs.declared.Storage.the-variants.{Held}

@@ -1,9 +1,9 @@
 -- No text of all records needs more bytes than are asked for, as every number has few digits.
-use Prim.Native.Nat.{ℕ, zero, suc, _+_, _*_, _^_, _<_, _≤_}
+use Prim.Native.Nat.{ℕ, zero, suc, _+_, _*_, _<_, _≤_}
 use native.Mathlib.Nat.{suc-mul}
 use native.Mathlib.Omega.{arith}
 use mathlib.Core.Bool.{Bool, true, false, cond}
-use mathlib.Core.List.{List, [], _++_}
+use mathlib.Core.List.{[], _++_}
 use lib.ListN.{length, length-append}
 use Rattle.words.specs.Sizes.{mostEntities}
 use Rattle.text.specs.Ascii.{space}

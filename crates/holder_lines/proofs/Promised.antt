@@ -2,10 +2,9 @@
 -- the same bundle, sheet and memory give the same answer and leave the same bytes.
 use Prim.Native.Nat.{ℕ, zero, suc, _<_, _≤_}
 use native.Mathlib.Omega.{arith}
-use mathlib.Core.Path.{_≡_, refl, sym, ap, ap₂, subst, _∙_}
+use mathlib.Core.Path.{_≡_, refl, sym, ap, ap₂, _∙_}
 use mathlib.Core.Bool.{Bool, true, false}
 use mathlib.Core.Logic.{_⊎_, inl, inr}
-use mathlib.Core.Option.{Option·some-injective}
 use mathlib.Core.List.{List, [], _∷_, _++_}
 use lib.ListN.{length, drop, length-append}
 use Rattle.base.specs.Refusals.{Row, AllOnePlace, AllNumbered, Applies, refused, passed}
@@ -27,9 +26,9 @@ use Rattle.storage.proofs.Refusals.{record-same}
 use Rattle.lists.specs.declared.Listed.{Listed}
 use Rattle.lists.specs.declared.Listed.the-variants.{Length, Refused}
 use Rattle.lists.specs.Promise.{shortRow, numberOf, placeOf, lengthOf, ListRefused}
-use Rattle.holder_lines.specs.Sizes.{mostRecords, holdersBytes}
-use Rattle.holder_lines.specs.Text.{linesText, lineText, wells, wellOf, ills, illOf, holdersText, saidIn}
-use Rattle.holder_lines.specs.Promise.{SaidOfAll, HoldersGiven, HoldersLeft, holdersRows, HoldersPromise}
+use Rattle.holder_lines.specs.Sizes.{holdersBytes}
+use Rattle.holder_lines.specs.Text.{linesText, wells, ills, holdersText, saidIn}
+use Rattle.holder_lines.specs.Promise.{HoldersGiven, HoldersLeft, holdersRows, HoldersPromise}
 use Rattle.holder_lines.proofs.Fits.{text-few}
 
 -- ---- one text

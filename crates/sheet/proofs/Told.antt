@@ -1,7 +1,7 @@
 -- The tests tell whether a sheet is right: its length, its check, and each byte before the check.
 use Prim.Native.Nat.{ℕ, zero, suc, _<_, _≤_}
 use mathlib.Core.Path.{_≡_, refl, sym}
-use mathlib.Core.Bool.{Bool, true, false, not, _&&_, _||_, true≢false}
+use mathlib.Core.Bool.{Bool, true, false, not, _&&_, _||_}
 use mathlib.Core.List.{List}
 use native.Mathlib.Decide.{decLt}
 use native.Mathlib.Omega.{arith}
@@ -11,7 +11,7 @@ use borrow.Author.Tests.{lt-ltb, eq-eqb, eqb-true, ltb-true, leb-true, le-leb, n
 use Rattle.rt0.specs.Credential.{IsName}
 use Rattle.base.specs.Byte.{byteAt}
 use Rattle.base.specs.Range.{outside}
-use Rattle.base.proofs.Flags.{Tells, or-false, both-false, and-false, inside, inside-flag, eq-tells, not-tells}
+use Rattle.base.proofs.Flags.{Tells, or-false, both-false, and-false, inside, inside-flag}
 use Rattle.base.proofs.Lowest.{any-false, any-none}
 use Rattle.block.specs.Block.{checkOf, storedCheck, checkWrong}
 use Rattle.types.proofs.Names.{and-tells}

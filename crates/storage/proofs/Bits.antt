@@ -3,7 +3,7 @@ use Prim.Native.Nat.{ℕ, _-_, _^_, _<_, _≤_}
 use native.Mathlib.Omega.{arith}
 use mathlib.Core.Path.{_≡_, refl, sym}
 use mathlib.Core.Bool.{Bool, true, false, cond, _||_, true≢false}
-use mathlib.Core.Logic.{_⊎_, inl, inr, ⊎-elim, ⊎-map, _↔_, Iff·trans}
+use mathlib.Core.Logic.{_⊎_, inl, ⊎-elim, _↔_, Iff·trans}
 use mathlib.Core.List.{List, [], _∷_, List·Memᴰ·head, List·Memᴰ·tail, List·Memᴰ·not-nil}
 use lib.Bits.{bitOr, or-lt}
 use lib.Pow.{pow-pos, pow-lt}
@@ -13,8 +13,8 @@ use Rattle.rt0.proofs.Bits.{bit-zero, bit-or, bit-power}
 use Rattle.rt0.proofs.Words.{sum-iff, entity-wider}
 use Rattle.base.specs.Range.{outside}
 use Rattle.base.proofs.Flags.{Tells, inside, inside-flag}
-use Rattle.types.specs.Name.{issuer-traces-def, Types, IssuerTracesAll, SubjectTracesAll, tracesAll, tracesDef, subjectsTrace}
-use Rattle.types.specs.Typed.{headType, IsSubject, MustStore}
+use Rattle.types.specs.Name.{Types, tracesAll, tracesDef, subjectsTrace}
+use Rattle.types.specs.Typed.{headType, IsSubject}
 use Rattle.types.proofs.Names.{issuer-stores, subject-stores}
 use Rattle.types.proofs.Parts.{SomePart, some-more}
 use Rattle.words.specs.Sizes.{mostEntities}

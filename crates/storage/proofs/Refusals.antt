@@ -2,15 +2,15 @@
 use Prim.Native.Nat.{ℕ, suc, _-_, _<_, _≤_}
 use mathlib.Core.Path.{_≡_, refl, sym, ap, _∙_}
 use mathlib.Core.Bool.{Bool, true, false}
-use mathlib.Core.Logic.{_⊎_, inl, inr, _↔_, Iff·trans}
-use mathlib.Core.Option.{some, Option·some-injective}
+use mathlib.Core.Logic.{inl, inr, _↔_}
+use mathlib.Core.Option.{Option·some-injective}
 use mathlib.Core.List.{List, [], _∷_}
 use native.Mathlib.Numerals.{sub-one}
 use native.Mathlib.Omega.{arith}
 use Rattle.rt0.specs.Credential.{Credential, IsEntity}
 use Rattle.rt0.specs.Word.{bit}
 use Rattle.rt0.proofs.Bits.{bits-same}
-use Rattle.base.specs.Range.{Outside, outside}
+use Rattle.base.specs.Range.{outside}
 use Rattle.base.specs.Refusals.{Row, AllOnePlace, AllNumbered, Applies, Clear, Due, refused, passed}
 use Rattle.base.proofs.Flags.{Tells, outside-tells, inside, clash-flag}
 use Rattle.base.proofs.Refusals.{zero-place, one-place-both, numbered-both, due-first, due-later, due-clear, due-number, due-unique}
@@ -20,12 +20,10 @@ use Rattle.bundle.specs.declared.read.Reading.the-variants as reading
 use Rattle.bundle.specs.Layout.{namesOf, recordsOf}
 use Rattle.bundle.specs.Rows.{readerRows, Reads, Accepts}
 use Rattle.bundle.specs.Access.{recordOf}
-use Rattle.bundle.specs.Held.{bookIn}
 use Rattle.bundle.proofs.Refusals.{reader-places, reader-numbers}
 use Rattle.bundle.proofs.Determined.{reads-refused}
 use Rattle.records.specs.Form.{credentialOf}
 use Rattle.types.specs.Name.{Types}
-use Rattle.types.specs.Typed.{MustStore}
 use Rattle.sheet.specs.Sheet.{RightSheet, sheetRow}
 use Rattle.sheet.specs.Types.{typesBy}
 use Rattle.words.specs.Sizes.{mostEntities}

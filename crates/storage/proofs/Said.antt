@@ -3,7 +3,7 @@ use Prim.Native.Nat.{ℕ, _≤_}
 use native.Mathlib.Omega.{arith}
 use mathlib.Core.Path.{_≡_, refl, sym, ap, _∙_}
 use mathlib.Core.Bool.{Bool, true, false, cond, _||_, true≢false}
-use mathlib.Core.Option.{Option, none, some}
+use mathlib.Core.Option.{Option, some}
 use mathlib.Core.List.{List}
 use lib.Bits.{bitOr}
 use Rattle.rt0.specs.Credential.{Credential, Valid}
@@ -18,7 +18,6 @@ use Rattle.records.specs.Form.{headOf, credentialOf}
 use Rattle.bundle.specs.declared.read.Sizes.{Sizes}
 use Rattle.bundle.specs.Rows.{Accepts}
 use Rattle.bundle.specs.Access.{recordOf}
-use Rattle.bundle.specs.Held.{bookIn}
 use Rattle.bundle.proofs.Accepted.{accepted-contents, record-credential, record-there, holding-sound}
 use Rattle.types.specs.declared.Traces.{Traces}
 use Rattle.types.specs.Name.{Types}

@@ -6,7 +6,7 @@ use mathlib.Core.Path.{_≡_, refl, sym, subst}
 use mathlib.Core.Bool.{Bool, true, false, cond, true≢false}
 use mathlib.Core.Logic.{_↔_}
 use mathlib.Core.List.{List, [], _∷_, List·Memᴰ·head, List·Memᴰ·tail, List·Memᴰ·not-nil}
-use Rattle.rt0.specs.Credential.{Role, _·_, nameOf, entity, role, link, intersection, Credential, _⟵_, head, _∈_}
+use Rattle.rt0.specs.Credential.{Role, _·_, nameOf, entity, role, link, intersection, Credential, _⟵_, _∈_}
 use Rattle.rt0.specs.Membership.{Assignment, Gives, Member}
 use Rattle.rt0.proofs.Least.{member-closed, member-least, member-grows}
 use Rattle.types.specs.Name.{IssuerSide, issuer-traces-none, issuer-traces-def, issuer-traces-all, Types, IssuerTracesAll, tracesAll}

@@ -1,8 +1,6 @@
 -- The type system as tests that compute. A type is three flags (`Traces`): whether it is issuer-traces-all, subject-traces-all, and weakly
 -- well typed. That they are the definitions of Name, Body and Typed is proved in proofs/Told.
-use Prim.Native.Nat.{ℕ}
 use mathlib.Core.Bool.{Bool, true, false, not, _&&_, _||_}
-use mathlib.Core.Option.{Option, none, some}
 use mathlib.Core.List.{List, [], _∷_}
 use Rattle.rt0.specs.Credential.{Role, nameOf, Body, entity, role, link, intersection, Credential}
 use Rattle.types.specs.declared.Traces.{Traces}

@@ -1,6 +1,5 @@
 -- `sheet::right` meets its contract.
 use borrow.Author.Needs.{needs}
-use denote.Ref.{now}
 use Rattle.sheet.proofs.Told.{found-right}
 use Rattle.sheet.proofs.right.Statement.{statement}
 use Rattle.sheet.proofs.right.Tie as tie
