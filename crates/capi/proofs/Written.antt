@@ -1,6 +1,6 @@
 -- What is packed of the writer's answer comes back: the number, and below it the place or the length modulo 2 ^ 56. A length fits these bits
--- always, and a place where the list of records, or the buffer, has fewer than 2 ^ 56 bytes: the answer that the result unpacks to then keeps
--- the writer's promise. And two results that keep it are the same number, with the same buffer.
+-- always, so does the place of an append, and that of a write where the list of records has fewer than 2 ^ 56 bytes: the answer that the result
+-- unpacks to then keeps the writer's promise. And two results that keep it are the same number, with the same buffer.
 use Prim.Native.Nat.{ℕ, _-_, _%_, _^_, _≤_, _<_}
 use native.Mathlib.Omega.{arith}
 use mathlib.Core.Path.{_≡_, refl, sym, ap, subst, _∙_}
@@ -8,7 +8,6 @@ use mathlib.Core.List.{List}
 use lib.ListN.{length}
 use borrow.Author.Tests.{ne-eqb}
 use Rattle.answers.specs.Pack.{numberIn}
-use Rattle.content.proofs.Whole.{Small}
 use Rattle.writer.specs.declared.answer.Wrote.{Wrote}
 use Rattle.writer.specs.declared.answer.Wrote.the-variants.{Length, Refused}
 use Rattle.writer.specs.Rows.{numberOf}
@@ -95,14 +94,14 @@ module _ (E R : ℕ) (marks list before : List ℕ) where
 -- An append.
 
 module _ (before : List ℕ) (n : ℕ) (bytes : List ℕ) where
-  pub unpacked-append : (after : List ℕ) (result : ℕ) → Small before → length before < 2 ^ 56 → PackedAppend before n bytes after result
+  pub unpacked-append : (after : List ℕ) (result : ℕ) → PackedAppend before n bytes after result
       → Appends before n bytes (unpackedWrote result) after
-  unpacked-append after result bytes-small small p =
+  unpacked-append after result p =
       unpacked-keeps (λ answer. Appends before n bytes answer after)
       (λ m h. omega (arith, append-size before n bytes after m h))
       (λ number place h. (
         append-number before n bytes after number place h,
-        omega (arith, append-place before n bytes after number place h bytes-small (2 ^ 56 - 1) (omega arith) (omega arith)),
+        omega (arith, append-place before n bytes after number place h),
       ))
       (p .answer) result (p .keeps) (p .packs)
 

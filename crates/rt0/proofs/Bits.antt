@@ -1,12 +1,12 @@
--- The bits of a word: of an or, an and, a power of two and a run of ones; and words with the same bits are equal.
+-- The bits of a word: of an or, an and, a power of two and a run of ones; and words with the same bits are equal. One, shifted, is a power.
 -- The laws by induction go down one bit at a time: bit d + 1 of a word is bit d of its half.
-use Prim.Native.Nat.{ℕ, zero, suc, _-_, _/_, _%_, _^_, _<_, _≤_, suc-le-suc, min, max}
-use native.Mathlib.Nat.{pow-suc, div-one, div-div-eq-div-mul, div-eq-of-lt, mod-lt, zero-div, mul-comm, zero-lt-suc, lt-of-lt-of-le}
+use Prim.Native.Nat.{ℕ, zero, suc, _-_, _*_, _/_, _%_, _^_, _<_, _≤_, suc-le-suc, min, max}
+use native.Mathlib.Nat.{pow-suc, div-one, div-div-eq-div-mul, div-eq-of-lt, mod-lt, zero-div, mul-comm, one-mul, zero-lt-suc, lt-of-lt-of-le}
 use native.Mathlib.Omega.{arith}
-use mathlib.Core.Path.{_≡_, refl, ap}
+use mathlib.Core.Path.{_≡_, refl, ap, _∙_}
 use mathlib.Core.Logic.{_↔_, _⊎_, inl, inr}
 use lib.Bits.{bitAnd, bitOr, or-step, and-step, or-shr, and-shr}
-use lib.Pow.{pow-pos, pow-mono}
+use lib.Pow.{pow-pos, pow-mono, shl-exact}
 use Rattle.rt0.specs.Word.{bit}
 
 -- the lowest bit, and the others
@@ -109,3 +109,7 @@ bits-same (suc k) a b ha hb h =
   where
     bits : (d : ℕ) → d < k → (bit (a / 2) d ≡ 1) ↔ (bit (b / 2) d ≡ 1)
     bits d l = rw (← bit-half a d, ← bit-half b d) (h (suc d) (suc-le-suc l))
+
+-- one, shifted within a word of so many bits
+pub shifted-one : (bits k : ℕ) → k < bits → 1 * 2 ^ k % 2 ^ bits ≡ 2 ^ k
+shifted-one bits k l = shl-exact 1 k bits (omega arith) (omega arith) ∙ one-mul (2 ^ k)

@@ -4,7 +4,7 @@
 -- Slips: sound, lasting, complete and short. SlipBytes: a slip is read back from its bytes. Books: the book of a list.
 -- Bounds: the paper's numbers.
 -- House: the cases P1 to P10. Shown and Grown tie the words of Word to tables and to possible members; Decide computes the answer.
--- The others (Items, Lists, Heads, Says, Bits, Words, Count, Rounding, Tests) hold what these need.
+-- The others (Items, Lists, Heads, Says, Bits, BitsBelow, Words, Count, Rounding, Tests) hold what these need.
 pub mod Least
 pub mod Tables
 pub mod Possible
@@ -16,6 +16,7 @@ pub mod Slips
 pub mod SlipBytes
 pub mod Books
 pub mod Bits
+pub mod BitsBelow
 pub mod Words
 pub mod Shown
 pub mod Count

@@ -27,6 +27,11 @@ abbrev pub pickWord : Bool → ℕ → ℕ → ℕ
 pickWord true v w = v
 pickWord false v w = w
 
+-- the word of the numbers below n at which a test holds
+unfoldable pub bitsBelow : (ℕ → Bool) → ℕ → ℕ
+bitsBelow holds zero = 0
+bitsBelow holds (suc n) = bitOr (bitsBelow holds n) (pickWord (holds n) (2 ^ n) 0)
+
 -- every member of X.r2, for every member X up to n of the word w
 unfoldable pub linkWord : ℕ → List ℕ → ℕ → ℕ → ℕ → ℕ
 linkWord W ws w r2 zero = 0

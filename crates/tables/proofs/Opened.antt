@@ -3,20 +3,19 @@
 use Prim.Native.Nat.{ℕ, zero, suc, _+_, _*_, _-_, _/_, _%_, _^_, _<_}
 use native.Mathlib.Numerals.{add-one}
 use native.Mathlib.Omega.{arith}
-use native.Mathlib.Decide.{ℕ-discrete}
 use mathlib.Core.Path.{_≡_, refl, sym, _∙_}
 use mathlib.Core.Bool.{Bool, true, false, _&&_, _||_, true≢false}
-use mathlib.Core.Logic.{_↔_, inl, inr, ⊎-elim, by-cases}
+use mathlib.Core.Logic.{_↔_}
 use mathlib.Core.List.{List, []}
 use lib.Dec.{eqb, leb}
-use lib.Bits.{bitOr, or-zero-r}
+use lib.Bits.{bitOr}
 use borrow.Author.Tests.{leb-true, eq-eqb, ne-eqb}
 use Rattle.rt0.specs.Credential.{_·_, IsEntity, IsName}
 use Rattle.rt0.specs.Completion.{isAbsent, Open, openBy}
-use Rattle.rt0.specs.Word.{bit, pickWord, noneWords, openWithin, openWords}
-use Rattle.rt0.proofs.Bits.{bit-zero, bit-or, bit-power}
+use Rattle.rt0.specs.Word.{bit, noneWords, openWithin, openWords}
+use Rattle.rt0.proofs.Bits.{bit-zero}
+use Rattle.rt0.proofs.BitsBelow.{bits-told, bits-one, bits-other}
 use Rattle.bundle.specs.Held.{shelves}
-use Rattle.words.proofs.Gained.{shifted-one}
 use Rattle.tables.specs.Open.{openIn, nothingOpen, absentWord, absentRoles}
 use Rattle.tables.proofs.Starts.{none-grows}
 
@@ -60,35 +59,16 @@ module _ (E R W : ℕ) (o p : Open) (agree : (A r : ℕ) → IsEntity E A → Is
 
 -- ---- the absent entities
 
-picked : (b : Bool) (n d : ℕ) → (bit (pickWord b (2 ^ n) 0) d ≡ 1) ↔ ((n ≡ d) × (b ≡ true))
-picked true n d = (λ h. (bit-power n d .0 h, refl), λ h. bit-power n d .1 (h .0))
-picked false n d = (λ h. absurd (omega (arith, bit-zero d)), λ h. absurd (true≢false (sym (h .1))))
-
 module _ (bytes : List ℕ) where
-  absent-bit : (n d : ℕ) → (bit (absentWord bytes n) d ≡ 1) ↔ ((d < n) × (isAbsent (shelves bytes (suc d)) ≡ true))
-  unfolding absentWord
-  absent-bit zero d = (λ h. absurd (omega (arith, bit-zero d)), λ h. absurd (omega arith))
-  absent-bit (suc n) d = (
-    λ h. ⊎-elim
-        (λ o. let (l, a) = absent-bit n d .0 o in (omega arith, a))
-        (λ o. let (e, a) = picked absent n d .0 o in (omega arith, rw (← e) a))
-        (bit-or (absentWord bytes n) (pickWord absent (2 ^ n) 0) d .0 h),
-    λ h. bit-or (absentWord bytes n) (pickWord absent (2 ^ n) 0) d .1 (by-cases (ℕ-discrete d n)
-        (λ e. inr (picked absent n d .1 (sym e, rw (← e) (h .1))))
-        (λ f. inl (absent-bit n d .1 (omega arith, h .1)))),
-  )
-    where
-      absent : Bool
-      absent = isAbsent (shelves bytes (suc n))
-
   flag : (w d : ℕ) (b : Bool) → (bit w d ≡ 1) ↔ (b ≡ true) → (eqb (bit w d) 1 || false) ≡ b
   flag w d true h = rw (eq-eqb (bit w d) 1 (h .1 refl))
   flag w d false h = rw (ne-eqb (bit w d) 1 (λ e. true≢false (sym (h .0 e))))
 
   absent-open : (E A r : ℕ) → IsEntity E A → openIn (absentRoles bytes E) (A · r) ≡ openBy (shelves bytes) (A · r)
+  unfolding absentWord
   absent-open E A r i =
       let same : suc (A - 1) ≡ A = omega arith in
-      let told = absent-bit E (A - 1) in
+      let told = bits-told (λ d. isAbsent (shelves bytes (suc d))) E (A - 1) in
       rw (bit-zero (r - 1)) (flag (absentWord bytes E) (A - 1) (isAbsent (shelves bytes A))
       (λ h. rw same at (told .0 h .1), λ e. told .1 (omega arith, rw same e)))
 
@@ -102,12 +82,8 @@ module _ (bytes : List ℕ) where
 module _ (bytes : List ℕ) (n word : ℕ) (e : word ≡ absentWord bytes n) (absent : Bool) (q : absent ≡ isAbsent (shelves bytes (n + 1))) where
   pub absent-more : n < 32 → absent ≡ true → bitOr word (1 * 2 ^ n % 2 ^ 32) ≡ absentWord bytes (n + 1)
   unfolding absentWord
-  absent-more l t =
-      let is : isAbsent (shelves bytes (n + 1)) ≡ true = sym q ∙ t in
-      rw (shifted-one 32 n l, add-one, rw add-one at is, e)
+  absent-more l t = bits-one _ n word e 32 l (rw add-one at (sym q ∙ t))
 
   pub absent-other : absent ≡ false → word ≡ absentWord bytes (n + 1)
   unfolding absentWord
-  absent-other t =
-      let is : isAbsent (shelves bytes (n + 1)) ≡ false = sym q ∙ t in
-      rw (add-one, rw add-one at is, or-zero-r, e)
+  absent-other t = bits-other _ n word e (rw add-one at (sym q ∙ t))

@@ -1,12 +1,11 @@
 -- Which roles are open, as one value that the code computes once and hands on: a word of entities and a word of names.
-use Prim.Native.Nat.{ℕ, zero, suc, _-_, _^_}
+use Prim.Native.Nat.{ℕ, suc, _-_}
 use mathlib.Core.Bool.{_||_}
 use mathlib.Core.List.{List}
 use lib.Dec.{eqb}
-use lib.Bits.{bitOr}
 use Rattle.rt0.specs.Credential.{_·_}
 use Rattle.rt0.specs.Completion.{isAbsent, Open}
-use Rattle.rt0.specs.Word.{bit, pickWord, openWords}
+use Rattle.rt0.specs.Word.{bit, bitsBelow, openWords}
 use Rattle.bundle.specs.Held.{shelves}
 use Rattle.tables.specs.declared.start.OpenRoles.{OpenRoles}
 use Rattle.bundle.specs.declared.read.Sizes.{Sizes}
@@ -22,8 +21,7 @@ nothingOpen = record { entities = 0; names = 0 }
 
 -- the word of the absent entities up to n
 unfoldable pub absentWord : List ℕ → ℕ → ℕ
-absentWord bytes zero = 0
-absentWord bytes (suc n) = bitOr (absentWord bytes n) (pickWord (isAbsent (shelves bytes (suc n))) (2 ^ n) 0)
+absentWord bytes n = bitsBelow (λ d. isAbsent (shelves bytes (suc d))) n
 
 -- the roles of the absent entities up to E are open
 abbrev pub absentRoles : List ℕ → ℕ → OpenRoles

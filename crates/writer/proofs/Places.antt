@@ -1,23 +1,21 @@
--- A refusal of the writer has a number, and its place is bounded by what was handed over: by the records of the list, or by the bytes of the
--- buffer.
-use Prim.Native.Nat.{ℕ, suc, _+_, _-_, _≤_, _<_}
-use mathlib.Core.Path.{_≡_}
-use mathlib.Core.Logic.{inl, inr}
+-- A refusal of the writer has a number. The place of a write is bounded by the records of the list, that of an append is at most 241.
+use Prim.Native.Nat.{ℕ, _+_, _≤_}
+use mathlib.Core.Path.{_≡_, refl}
+use mathlib.Core.Logic.{inl, inr, ⊎-elim}
 use mathlib.Core.List.{List, [], _∷_, _++_}
 use native.Mathlib.Omega.{arith}
-use lib.ListN.{length, take, length-take}
-use Rattle.base.specs.Lowest.{LowestBelow}
-use Rattle.base.specs.Refusals.{Row, FromOne, Due, AllNumbered, refused, passed}
-use Rattle.base.proofs.Refusals.{due-number}
-use Rattle.bundle.specs.Layout.{entitiesOf, namesOf, badCheck, blocks}
-use Rattle.bundle.specs.Rows.{MistakeAt, readerRows}
+use lib.ListN.{length, take}
+use Rattle.base.specs.Refusals.{Row, FromOne, Due, Clear, AllNumbered, refused, passed}
+use Rattle.base.proofs.Refusals.{due-number, due-split}
+use Rattle.bundle.specs.Layout.{entitiesOf, namesOf, sizesIn}
+use Rattle.bundle.specs.Rows.{readerRows}
+use Rattle.bundle.proofs.Accepted.{accepted-contents}
+use Rattle.bundle.proofs.Places.{reader-place}
 use Rattle.content.specs.Content.{Content, contentFrom, wholeRecords}
-use Rattle.content.proofs.Whole.{Small}
 use Rattle.writer.specs.declared.answer.Wrote.the-variants.{Refused}
 use Rattle.writer.specs.Rows.{LowestListed, roomRows, writeRows, newRows, frontRecords, appendRows}
 use Rattle.writer.specs.Promise.{Leaves, Writes, longer, Appends}
 use Rattle.writer.proofs.Tables.{write-numbers, append-numbers}
-use Rattle.writer.proofs.Kept.{small-front}
 
 -- every row applies at this place at most
 abbrev Within : ℕ → List Row → Type 0
@@ -84,41 +82,21 @@ module _ (before : List ℕ) (n : ℕ) (bytes after : List ℕ) (number place : 
   abbrev room : List Row
   room = roomRows (frontRecords before n + 1) (length before)
 
-  module _ (small : Small before) (most : ℕ) (l : 256 ≤ most) (m : length before ≤ most) where
-    zero : {P : Type 0} (p : ℕ) → (p ≡ 0) × P → p ≤ most
-    zero p (e, _) = omega arith
+  few : Clear (readerRows front) → frontRecords before n ≤ 240
+  few clear = accepted-contents front (sizesIn front) (record { clear = clear; said = refl }) .most-records
 
-    few : frontRecords before n < 256
-    few = small-front before n small 3
+  later-within : frontRecords before n ≤ 240 → Within 241 (new ++ room)
+  later-within l = within-both 241 new room (next, (next, (next, (next, (next, tt))))) (room-within 241 (frontRecords before n + 1) (length before) (omega arith))
+    where
+      next : {P : Type 0} (p : ℕ) → (p ≡ frontRecords before n + 1) × P → p ≤ 241
+      next p (e, _) = omega arith
 
-    short : length front ≤ most
-    short = rw length-take (omega arith)
+  -- the first row, the reader's, and those behind them where the reader accepts
+  by-row : Due (appendRows before n bytes) number place → place ≤ 241
+  by-row (inl (_, (e, _))) = omega arith
+  by-row (inr (_, d)) =
+      ⊎-elim (λ e. omega (arith, reader-place front number place e)) (λ (clear, e). due-within 241 (new ++ room) number place (later-within (few clear)) e)
+      (due-split (readerRows front) (new ++ room) number place d)
 
-    mistake : (k p : ℕ) → FromOne (MistakeAt front k) p → p ≤ most
-    mistake k p (j, e, a) = omega (arith, e, few, a .record-there .below)
-
-    reader-within : Within most (readerRows front)
-    reader-within = (
-      zero,
-      (
-        λ p a. omega (arith, short, a .below),
-        (
-          zero,
-          (zero, (λ p (j, e, a). omega (arith, e, short, a .below), (mistake 61, (mistake 62, (mistake 63, (mistake 64, (mistake 65, tt))))))),
-        ),
-      ),
-    )
-
-    new-within : Within most new
-    new-within = (next, (next, (next, (next, (next, tt)))))
-      where
-        next : {P : Type 0} (p : ℕ) → (p ≡ frontRecords before n + 1) × P → p ≤ most
-        next p (e, _) = omega (arith, e, few)
-
-    later-within : Within most (new ++ room)
-    later-within = within-both most new room new-within (room-within most (frontRecords before n + 1) (length before) (omega arith))
-
-    pub append-place : place ≤ most
-    append-place =
-        due-within most (appendRows before n bytes) number place (zero, within-both most (readerRows front) (new ++ room) reader-within later-within)
-        (its-due (appendRows before n bytes) (append-numbers before n bytes) (longer before n bytes) before after number place h)
+  pub append-place : place ≤ 241
+  append-place = by-row (its-due (appendRows before n bytes) (append-numbers before n bytes) (longer before n bytes) before after number place h)

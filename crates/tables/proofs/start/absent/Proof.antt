@@ -3,6 +3,7 @@ use native.Mathlib.Omega.{arith}
 use borrow.Author.Needs.{needs}
 use Prim.Native.Nat.{_-_, _≤_}
 use mathlib.Core.Path.{_≡_, _∙_}
+use Rattle.rt0.proofs.BitsBelow.{bits-none}
 use Rattle.tables.specs.Open.{absentWord}
 use mathlib.Core.Logic.{⊎-elim}
 use Rattle.tables.proofs.Opened.{absent-more, absent-other}
@@ -17,7 +18,7 @@ abbrev μ-loop : tie.MeasureT-loop
 
 loop-holds : tie.Need-loop-holds Inv-loop μ-loop
 unfolding absentWord
-loop-holds c = search needs
+loop-holds c = (search needs, bits-none _)
 
 add-is-absent : tie.Need-add-is-absent Inv-loop μ-loop
 add-is-absent c = search needs

@@ -2,7 +2,7 @@
 use native.Mathlib.Omega.{arith}
 use borrow.Author.Needs.{needs}
 use lib.Pow.{pow-pos, pow-mono}
-use Rattle.words.proofs.Gained.{shifted-one}
+use Rattle.rt0.proofs.Bits.{shifted-one}
 use Rattle.tables.proofs.start.everyone.Statement.{statement}
 use Rattle.tables.proofs.start.everyone.Tie as tie
 

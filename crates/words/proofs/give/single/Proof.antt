@@ -2,7 +2,7 @@
 use borrow.Author.Needs.{needs}
 use mathlib.Core.Path.{sym, _∙_}
 use Rattle.words.specs.Give.{singleOf}
-use Rattle.words.proofs.Gained.{shifted-one}
+use Rattle.rt0.proofs.Bits.{shifted-one}
 use mathlib.Core.Path.{sym, _∙_}
 use Rattle.base.proofs.Flags.{inside}
 use Rattle.words.specs.Sizes.{mostEntities}
