@@ -38,14 +38,18 @@ openOf bytes = openBy (shelves bytes)
 abbrev pub bookIn : List ℕ → Book
 bookIn bytes = bookOf (held bytes)
 
--- what a question on a bundle is asked of
-abbrev pub holdingIn : List ℕ → Holding
-holdingIn bytes =
+-- what a question on a bundle is asked of where these roles are open
+abbrev pub holdingWith : Open → List ℕ → Holding
+holdingWith isOpen bytes =
     record {
       entities = entitiesOf bytes;
       names = namesOf bytes;
-      isOpen = openOf bytes;
+      isOpen = isOpen;
       held = held bytes;
       book = bookIn bytes;
       records = recordsOf bytes;
     }
+
+-- by its marks alone
+abbrev pub holdingIn : List ℕ → Holding
+holdingIn bytes = holdingWith (openOf bytes) bytes

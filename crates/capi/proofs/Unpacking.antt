@@ -7,6 +7,7 @@ use Rattle.answers.specs.Answer.{Outcome}
 use Rattle.answers.specs.Pack.{packed, unpacked, Packs}
 use Rattle.answers.proofs.Packing.{packs-unpacked}
 use Rattle.bundle.specs.declared.question.Question.{Question}
+use Rattle.bundle.specs.Held.{openOf}
 use Rattle.search.specs.Promise.{Lent, Promise}
 use Rattle.search.specs.Agreement.{Agreement}
 use Rattle.search.proofs.Determined.{promise-determines}
@@ -28,7 +29,7 @@ packed-promise bytes q before after o result p promise =
 pub results-agree : (bytes : List ℕ) (q : Question) (before after-one after-two : Lent) (one two : ℕ) → PackedPromise bytes q before after-one one
     → PackedPromise bytes q before after-two two → Agreement (unpacked one) after-one (unpacked two) after-two
 results-agree bytes q before after-one after-two one two p r =
-    promise-determines bytes q before after-one after-two (unpacked one) (unpacked two) (p .promise) (r .promise)
+    promise-determines (openOf bytes) bytes q before after-one after-two (unpacked one) (unpacked two) (p .promise) (r .promise)
 
 pub packed-tables : (bundle : List ℕ) (before after : Tables) (filled answer : Filled) (result : ℕ) → filled ≡ answer
     → TablesPromise bundle before after filled → Packs (filledOutcome answer) result → PackedTables bundle before after result
@@ -39,7 +40,7 @@ packed-tables bundle before after filled answer result e promise p =
 pub tables-equal : (bundle : List ℕ) (before after-one after-two : Tables) (one two : ℕ) → PackedTables bundle before after-one one
     → PackedTables bundle before after-two two → (one ≡ two) × (after-one ≡ after-two)
 tables-equal bundle before after-one after-two one two p r =
-    let (same, words) = tables-determined bundle before after-one after-two (p .answer) (r .answer) (p .promise) (r .promise) in
+    let (same, words) = tables-determined (openOf bundle) bundle before after-one after-two (p .answer) (r .answer) (p .promise) (r .promise) in
     (p .packing ∙ ap (λ (o : Filled). packed (filledOutcome o)) same ∙ sym (r .packing), words)
 
 pub packed-check : (bundle : List ℕ) (q : Question) (slip : List ℕ) (found answer : Checked) (result : ℕ) → found ≡ answer

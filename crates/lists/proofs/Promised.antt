@@ -16,7 +16,7 @@ use Rattle.base.proofs.Refusals.{due-first, due-later, clear-both}
 use Rattle.bundle.specs.declared.read.Sizes.{Sizes}
 use Rattle.bundle.specs.Layout.{entitiesOf, namesOf}
 use Rattle.bundle.specs.Rows.{readerRows, Accepts}
-use Rattle.bundle.specs.Held.{holdingIn}
+use Rattle.bundle.specs.Held.{openOf, holdingIn}
 use Rattle.bundle.proofs.Accepted.{accepted-contents, holding-sound}
 use Rattle.tables.specs.declared.Filled.the-variants as filled
 use Rattle.words.specs.Sizes.{mostEntities, width, tableWords}
@@ -40,7 +40,7 @@ use Rattle.lists.proofs.ReadOff.{members-right, roles-right}
 pub tables-of : (bytes : List ℕ) (sure possible sure' possible' : List ℕ) (s : Sizes) (n : ℕ)
     → TablesPromise bytes (tables sure possible) (tables sure' possible') (filled.Rounds s n) → Accepts bytes s × TablesOf (holdingIn bytes) sure' possible'
 tables-of bytes sure possible sure' possible' s n p =
-    let (accepts, left) = filled-told bytes (tables sure possible) (tables sure' possible') s n p in
+    let (accepts, left) = filled-told (openOf bytes) bytes (tables sure possible) (tables sure' possible') s n p in
     (accepts, record { sure-shown = left .sure .shows; possible-shown = left .possible .shows })
 
 -- any list
@@ -52,7 +52,7 @@ module _ {K : Type 0} (Right : List (Line K) → Type 0) (keyText : K → List �
   refused-tables sure possible after n p enough also promise =
       let right : tablesWrong (tables sure possible) ≡ false = rw (le-ltb (length sure) tableWords enough, le-ltb (length possible) tableWords also) in
       refused
-      (due-first (readerRows bytes) (asked ∷ shortRow needed before ∷ []) n p (refused-told bytes (tables sure possible) after n p right promise .0))
+      (due-first (readerRows bytes) (asked ∷ shortRow needed before ∷ []) n p (refused-told (openOf bytes) bytes (tables sure possible) after n p right promise .0))
       (record { none = refl; untouched = refl })
 
   module _ (clear : Clear (readerRows bytes)) where

@@ -11,14 +11,14 @@ use Rattle.rt0.specs.Holding.{Holding}
 use Rattle.base.specs.Refusals.{refused, passed}
 use Rattle.base.proofs.Refusals.{due-unique, due-clear}
 use Rattle.bundle.specs.declared.question.Question.{Question}
-use Rattle.bundle.specs.Held.{holdingIn}
-use Rattle.rt0.specs.Completion.{Verdict, YES, NO, UNSURE}
+use Rattle.bundle.specs.Held.{holdingWith}
+use Rattle.rt0.specs.Completion.{Open, Verdict, YES, NO, UNSURE}
 use Rattle.rt0.proofs.Tables.{rounds-unique}
 use Rattle.rt0.proofs.Possible.{answer-unique}
 use Rattle.answers.specs.declared.Answer.{Answer}
 use Rattle.answers.specs.declared.Answer.the-variants.{Yes, No, Unsure, Refused as AnswerRefused}
 use Rattle.answers.specs.Answer.{Outcome, verdictNumber, outcomeOf}
-use Rattle.search.specs.Promise.{Lent, SlipLeft, searchRows, AnsweredWith, Promise}
+use Rattle.search.specs.Promise.{Lent, SlipLeft, searchRows, AnsweredWith, PromiseWith}
 use Rattle.search.proofs.Judging.{search-places}
 use Rattle.search.specs.Agreement.{Agreement}
 use Rattle.tables.proofs.Comparing.{drop-later}
@@ -62,11 +62,11 @@ agrees-itself o after =
       slip = λ other. refl;
     }
 
-module _ (bytes : List ℕ) (q : Question) (before after-one after-two : Lent) (one two : Outcome) where
-  answered-same : AnsweredWith (holdingIn bytes) q before after-one one → AnsweredWith (holdingIn bytes) q before after-two two
+module _ (isOpen : Open) (bytes : List ℕ) (q : Question) (before after-one after-two : Lent) (one two : Outcome) where
+  answered-same : AnsweredWith (holdingWith isOpen bytes) q before after-one one → AnsweredWith (holdingWith isOpen bytes) q before after-two two
       → Agreement one after-one two after-two
   answered-same p r =
-      let h = holdingIn bytes in
+      let h = holdingWith isOpen bytes in
       let words : p .word ≡ r .word = answer-unique (h .entities) (h .names) (h .isOpen) (h .held) _ _ _ _ (p .answers) (r .answers) in
       let verdicts : one .verdict ≡ two .verdict = cc in
       record {
@@ -82,7 +82,7 @@ module _ (bytes : List ℕ) (q : Question) (before after-one after-two : Lent) (
         slip = λ other. slip-stays p other .1 ∙ sym (slip-stays r (λ e. other (verdicts ∙ e)) .1);
       }
 
-  pub promise-determines : Promise bytes q before after-one one → Promise bytes q before after-two two → Agreement one after-one two after-two
+  pub promise-determines : PromiseWith isOpen bytes q before after-one one → PromiseWith isOpen bytes q before after-two two → Agreement one after-one two after-two
   promise-determines (refused d k) (refused e l) =
       let (number, place) = due-unique (searchRows bytes q before) (search-places bytes q before) (one .number) (one .place) (two .number) (two .place) d e in
       let outcomes : one ≡ two = cc (k .outcome, l .outcome) in

@@ -8,6 +8,7 @@ use mathlib.Core.List.{List, [], _∷_}
 use lib.ListN.{length}
 use lib.Dec.{ltb}
 use borrow.Author.Tests.{ltb-false, le-ltb}
+use Rattle.rt0.specs.Completion.{Open}
 use Rattle.base.specs.Refusals.{Row, Due, Clear, Applies, AllOnePlace, AllNumbered, refused, passed}
 use Rattle.base.proofs.Flags.{or-false, Tells, or-tells-three, lt-tells, clash-flag}
 use Rattle.base.proofs.Refusals.{due-first, due-later, clear-both, one-place-both, numbered-both, zero-place}
@@ -17,7 +18,7 @@ use Rattle.bundle.specs.declared.read.Reading.the-variants as reading
 use Rattle.bundle.specs.declared.question.Question.{Question}
 use Rattle.bundle.specs.Layout.{entitiesOf, namesOf}
 use Rattle.bundle.specs.Rows.{readerRows, Reads, Accepts}
-use Rattle.bundle.specs.Held.{holdingIn}
+use Rattle.bundle.specs.Held.{holdingWith}
 use Rattle.bundle.specs.Question.{questionWrong, questionRow, Asked}
 use Rattle.bundle.proofs.Accepted.{accepted-contents}
 use Rattle.bundle.proofs.Refusals.{reader-places, reader-numbers, reads-accepted}
@@ -26,9 +27,9 @@ use Rattle.bundle.proofs.Questions.{question-tells, asked-right}
 use Rattle.answers.specs.Answer.{Outcome, refusal}
 use Rattle.tables.specs.declared.Filled.the-variants as filled
 use Rattle.words.specs.Sizes.{tableWords, slipBytes}
-use Rattle.tables.specs.Promise.{Tables, tables, tablesWrong, TablesPromise}
+use Rattle.tables.specs.Promise.{Tables, tables, tablesWrong, TablesWith}
 use Rattle.tables.proofs.Told.{refused-told}
-use Rattle.search.specs.Promise.{Lent, lent, LentShort, lentWrong, lentRow, searchRows, AnsweredWith, Promise}
+use Rattle.search.specs.Promise.{Lent, lent, LentShort, lentWrong, lentRow, searchRows, AnsweredWith, PromiseWith}
 use Rattle.search.specs.Enough.{Enough}
 use Rattle.search.specs.Concluded.{RefusedAs}
 
@@ -98,9 +99,9 @@ module _ (bytes : List ℕ) (q : Question) (before : Lent) where
   own-due true n p e h k z = inl (sym k, (z, question-tells (entitiesOf bytes) (namesOf bytes) q .0 (sym e)))
   own-due false n p e h k z = inr (in-range (sym e), inl (sym k, (z, lent-tells before .0 h)))
 
-  pub refused-rightly : (wrong : Bool) (o : Outcome) → wrong ≡ outside → (wrong || lentWrong before) ≡ true → RefusedAs bytes wrong o
-      → Promise bytes q before before o
-  refused-rightly wrong o e h r =
+  pub refused-rightly : (isOpen : Open) (wrong : Bool) (o : Outcome) → wrong ≡ outside → (wrong || lentWrong before) ≡ true
+      → RefusedAs bytes wrong o → PromiseWith isOpen bytes q before before o
+  refused-rightly isOpen wrong o e h r =
       refused
       (⊎-elim (λ d. due-first (readerRows bytes) later (o .number) (o .place) d)
       (λ (clear, number, place). due-later (readerRows bytes) later (o .number) (o .place) clear (own-due wrong (o .number) (o .place) e h number place))
@@ -111,18 +112,18 @@ module _ (bytes : List ℕ) (q : Question) (before : Lent) where
   pub none-applies : (s : Sizes) → Accepts bytes s → outside ≡ false → lentWrong before ≡ false → Clear (searchRows bytes q before)
   none-applies s a w m = clear-both (readerRows bytes) later (a .clear) (in-range w, (enough-memory m, tt))
 
-module _ (bytes : List ℕ) (q : Question) (sure possible slip : List ℕ) (enough : lentWrong (lent sure possible slip) ≡ false) where
+module _ (isOpen : Open) (bytes : List ℕ) (q : Question) (sure possible slip : List ℕ) (enough : lentWrong (lent sure possible slip) ≡ false) where
   -- the tables are refused by the reader alone
-  pub refused-tables : (after : Tables) (number place : ℕ) → TablesPromise bytes (tables sure possible) after (filled.Refused number place)
-      → Promise bytes q (lent sure possible slip) (lent (after .sure) (after .possible) slip) (refusal number place)
+  pub refused-tables : (after : Tables) (number place : ℕ) → TablesWith isOpen bytes (tables sure possible) after (filled.Refused number place)
+      → PromiseWith isOpen bytes q (lent sure possible slip) (lent (after .sure) (after .possible) slip) (refusal number place)
   refused-tables after number place p =
       let (both, _) = or-false (tablesWrong (tables sure possible)) (ltb (length slip) slipBytes) enough in
-      let (d, untouched) = refused-told bytes (tables sure possible) after number place both p in
+      let (d, untouched) = refused-told isOpen bytes (tables sure possible) after number place both p in
       refused (due-first (readerRows bytes) (later bytes q (lent sure possible slip)) number place d)
       (record { outcome = refl; untouched = ap (λ (t : Tables). lent (t .sure) (t .possible) slip) untouched })
 
   pub answered-rightly : (s : Sizes) (after : Lent) (o : Outcome) → Accepts bytes s → questionWrong (entitiesOf bytes) (namesOf bytes) q ≡ false
-      → AnsweredWith (holdingIn bytes) q (lent sure possible slip) after o → Promise bytes q (lent sure possible slip) after o
+      → AnsweredWith (holdingWith isOpen bytes) q (lent sure possible slip) after o → PromiseWith isOpen bytes q (lent sure possible slip) after o
   answered-rightly s after o a w r =
       let number : o .number ≡ 0 = ap (λ (x : Outcome). x .number) (r .outcome) in
       let place : o .place ≡ 0 = ap (λ (x : Outcome). x .place) (r .outcome) in

@@ -10,13 +10,13 @@ use lib.Dec.{ltb}
 use Rattle.rt0.specs.Credential.{Role}
 use Rattle.rt0.specs.Membership.{Member}
 use Rattle.rt0.specs.Table.{Rounds, distinctHeads}
-use Rattle.rt0.specs.Completion.{Completable, Verdict, YES, NO, UNSURE, Answers}
+use Rattle.rt0.specs.Completion.{Open, Completable, Verdict, YES, NO, UNSURE, Answers}
 use Rattle.rt0.specs.Book.{Book}
 use Rattle.rt0.specs.Holding.{Holding}
 use Rattle.base.specs.Refusals.{Row, row, AtZero, Judged}
 use Rattle.bundle.specs.declared.question.Question.{Question}
 use Rattle.bundle.specs.Rows.{readerRows}
-use Rattle.bundle.specs.Held.{holdingIn}
+use Rattle.bundle.specs.Held.{openOf, holdingWith}
 use Rattle.bundle.specs.Question.{roleAsked, questionRow}
 use Rattle.answers.specs.Answer.{Outcome, refusal, answered}
 use Rattle.words.specs.Sizes.{mostEntities, tableWords, slipBytes}
@@ -71,7 +71,12 @@ pub record AnsweredWith (h : Holding) (q : Question) (before after : Lent) (o : 
   pub possible : TableLeft (Completable (h .entities) (h .names) (h .isOpen) (h .held)) (before .possible) (after .possible)
   pub slip : SlipLeft (h .book) (roleAsked q) (q .person) (before .slip) (after .slip) (o .lines) word
 
--- the refusal that is due, or, where no row applies, the answer
+-- the refusal that is due, or, where no row applies, the answer where these roles are open
+abbrev pub PromiseWith : Open → List ℕ → Question → Lent → Lent → Outcome → Type 0
+PromiseWith isOpen bytes q before after o =
+    Judged (searchRows bytes q before) (o .number) (o .place) (RefusedWith before after o)
+    (AnsweredWith (holdingWith isOpen bytes) q before after o)
+
+-- by the bundle's marks alone
 abbrev pub Promise : List ℕ → Question → Lent → Lent → Outcome → Type 0
-Promise bytes q before after o =
-    Judged (searchRows bytes q before) (o .number) (o .place) (RefusedWith before after o) (AnsweredWith (holdingIn bytes) q before after o)
+Promise bytes = PromiseWith (openOf bytes) bytes

@@ -7,19 +7,20 @@ ghost use lib.Dec.{eqb};
 ghost use Rattle.rt0.specs.Credential.{IsEntity};
 ghost use Rattle.rt0.specs.Word.{bit as bitOf};
 ghost use Rattle.bundle.specs.Layout.{entitiesOf, namesOf};
-ghost use Rattle.bundle.specs.Held.{holdingIn};
+ghost use Rattle.bundle.specs.Held.{held};
 ghost use Rattle.bundle.specs.Question.{questionWrong, Asked};
 ghost use Rattle.answers.specs.Answer.{outcomeOf};
 ghost use Rattle.words.specs.Sizes.{mostEntities, slipBytes};
 ghost use Rattle.words.specs.Give.{wordOf};
-ghost use Rattle.search.specs.Promise.{lentWrong, lent, Promise};
-ghost use Rattle.search.specs.Concluded.{TablesShow, Concluded};
+ghost use Rattle.tables.specs.Open.{openNames};
+ghost use Rattle.search.specs.Promise.{lentWrong, lent, PromiseWith};
+ghost use Rattle.search.specs.Concluded.{SureShows, ConcludedBy};
 use crate::slip::write_slip;
 use answers::Answer;
 use bundle::question::Question;
 use bundle::read::Sizes;
 use tables::Filled;
-use tables::fill;
+use tables::fill_opening;
 use words::table::word;
 
 // Whether the person is in the role by a table.
@@ -40,9 +41,9 @@ fn conclude(
     possible: &[u32],
     slip: &mut [u8],
 ) -> Answer
-    requires { ⌜ Asked (now bundle) sizes question × TablesShow (holdingIn (now bundle)) rounds (now sure) (now possible)
+    requires { ⌜ Asked (now bundle) sizes question × SureShows (held (now bundle)) rounds (now sure)
         × (slipBytes ≤ length (now slip)) ⌝ }
-    ensures { λ r. ⌜ Concluded (holdingIn (now (bundle .entry))) question rounds
+    ensures { λ r. ⌜ ConcludedBy (now (bundle .entry)) question rounds (now (possible .entry))
         (now (slip .entry)) (now (slip .exit)) (outcomeOf r) ⌝ }
 {
     if holds(sure, question) {
@@ -58,9 +59,11 @@ fn conclude(
     Answer::No { rounds }
 }
 
-// The answer to a question that is in range by block 0, with memory enough: the reader's refusal, or the word.
+// The answer to a question that is in range by block 0, with memory enough: the reader's refusal, or the word where any absent shelf opens
+// the names in a word.
 pub(crate) fn work_out(
     bundle: &[u8],
+    names: u32,
     question: Question,
     sure: &mut [u32],
     possible: &mut [u32],
@@ -68,11 +71,11 @@ pub(crate) fn work_out(
 ) -> Answer
     requires { ⌜ (questionWrong (entitiesOf (now bundle)) (namesOf (now bundle)) question ≡ false)
         × (lentWrong (lent (now sure) (now possible) (now slip)) ≡ false) ⌝ }
-    ensures { λ r. ⌜ Promise (now (bundle .entry)) question
+    ensures { λ r. ⌜ PromiseWith (openNames names (now (bundle .entry))) (now (bundle .entry)) question
         (lent (now (sure .entry)) (now (possible .entry)) (now (slip .entry)))
         (lent (now (sure .exit)) (now (possible .exit)) (now (slip .exit))) (outcomeOf r) ⌝ }
 {
-    match fill(bundle, sure, possible) {
+    match fill_opening(bundle, names, sure, possible) {
         Filled::Refused { number, place } => Answer::Refused { number, place },
         Filled::Rounds { sizes, rounds } => {
             conclude(bundle, sizes, rounds, question, sure, possible, slip)

@@ -1,7 +1,8 @@
 // The search: whether a person is in a role, with the tables, the rounds and, for YES, a slip.
 ghost use Rattle.answers.specs.Answer.{outcomeOf};
 ghost use Rattle.bundle.specs.Question.{question as ask};
-ghost use Rattle.search.specs.Promise.{Promise, lent};
+ghost use Rattle.tables.specs.Open.{openNames};
+ghost use Rattle.search.specs.Promise.{PromiseWith, Promise, lent};
 ghost use Rattle.search.specs.Concluded.{RefusedAs};
 use crate::answer::work_out;
 use crate::slip::Slip;
@@ -36,7 +37,32 @@ fn refuse(bundle: &[u8], wrong: bool) -> Answer
     Answer::Refused { number, place }
 }
 
-// The answer to every bundle, question and memory. The bundle is read once: here if a refusal is due, or else with the tables.
+// The answer to every bundle, question and memory, where any absent shelf opens the names in a word. The bundle is read once: here if a
+// refusal is due, or else with the tables.
+pub fn search_opening(
+    bundle: &[u8],
+    names: u32,
+    question: Question,
+    sure: &mut [u32],
+    possible: &mut [u32],
+    slip: &mut [u8],
+) -> Answer
+    ensures { λ w. ⌜ PromiseWith (openNames names (now (bundle .entry))) (now (bundle .entry)) question
+        (lent (now (sure .entry)) (now (possible .entry)) (now (slip .entry)))
+        (lent (now (sure .exit)) (now (possible .exit)) (now (slip .exit))) (outcomeOf w) ⌝ }
+{
+    let sizes = sizes_of(bundle);
+    let wrong = question_wrong(sizes.entities, sizes.names, question);
+    let short = (sure.len() < Table::WORDS)
+        | (possible.len() < Table::WORDS)
+        | (slip.len() < Slip::BYTES);
+    if wrong | short {
+        return refuse(bundle, wrong);
+    }
+    work_out(bundle, names, question, sure, possible, slip)
+}
+
+// The same where an absent shelf opens its own roles alone.
 pub fn search(
     bundle: &[u8],
     d: u8,
@@ -55,13 +81,5 @@ pub fn search(
         entity: a as usize,
         name: r as usize,
     };
-    let sizes = sizes_of(bundle);
-    let wrong = question_wrong(sizes.entities, sizes.names, question);
-    let short = (sure.len() < Table::WORDS)
-        | (possible.len() < Table::WORDS)
-        | (slip.len() < Slip::BYTES);
-    if wrong | short {
-        return refuse(bundle, wrong);
-    }
-    work_out(bundle, question, sure, possible, slip)
+    search_opening(bundle, 0, question, sure, possible, slip)
 }

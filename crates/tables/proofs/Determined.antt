@@ -11,6 +11,7 @@ use lib.ListN.{length, getD}
 use lib.Seq.{ext-getD, getD-drop}
 use Rattle.rt0.specs.Credential.{IsEntity}
 use Rattle.rt0.specs.Membership.{Assignment}
+use Rattle.rt0.specs.Completion.{Open}
 use Rattle.rt0.specs.Word.{bit}
 use Rattle.rt0.proofs.Bits.{bits-same}
 use Rattle.rt0.proofs.Shown.{place-of}
@@ -24,7 +25,7 @@ use Rattle.bundle.specs.Rows.{readerRows}
 use Rattle.bundle.specs.Held.{held}
 use Rattle.bundle.proofs.Determined.{some-sizes}
 use Rattle.tables.specs.declared.Filled.the-variants.{Rounds, Refused}
-use Rattle.tables.specs.Promise.{Tables, tables, TableLeft, shortRow, tableRows, TablesPromise}
+use Rattle.tables.specs.Promise.{Tables, tables, TableLeft, shortRow, tableRows, TablesWith}
 use Rattle.tables.proofs.Promised.{table-places, table-numbers}
 
 -- two tables that the same promise leaves are equal: the first tableWords words have the same bits, the others are as they were
@@ -48,8 +49,8 @@ module _ {P : Assignment} {before ws vs : List ℕ} (s : TableLeft P before ws) 
 abbrev pub Same : Filled → Tables → Filled → Tables → Type 0
 Same one after-one two after-two = (one ≡ two) × (after-one ≡ after-two)
 
-module _ (bytes : List ℕ) (before after-one after-two : Tables) where
-  pub tables-determined : (one two : Filled) → TablesPromise bytes before after-one one → TablesPromise bytes before after-two two
+module _ (isOpen : Open) (bytes : List ℕ) (before after-one after-two : Tables) where
+  pub tables-determined : (one two : Filled) → TablesWith isOpen bytes before after-one one → TablesWith isOpen bytes before after-two two
       → Same one after-one two after-two
   tables-determined (Rounds s n) (Rounds t m) (passed _ _ c f) (passed _ _ d g) =
       let rounds = rounds-unique (held bytes) n m (f .filled .rounds) (g .filled .rounds) in

@@ -1,22 +1,26 @@
 -- The value that says which roles are open. With nothing open the rounds start from nobody. The value that the code computes from a
--- bundle's marks agrees with the paper's test, an absent shelf, on every role within E and R: so both start the same table.
+-- bundle's marks and the names given agrees with the paper's test on every role within E and R: so both start the same table.
 use Prim.Native.Nat.{ℕ, zero, suc, _+_, _*_, _-_, _/_, _%_, _^_, _<_}
 use native.Mathlib.Numerals.{add-one}
 use native.Mathlib.Omega.{arith}
-use mathlib.Core.Path.{_≡_, refl, sym, _∙_}
-use mathlib.Core.Bool.{Bool, true, false, _&&_, _||_, true≢false}
+use mathlib.Core.Path.{_≡_, refl, sym, _∙_, fun-ext}
+use mathlib.Core.Bool.{Bool, true, false, cond, _&&_, _||_, true≢false}
 use mathlib.Core.Logic.{_↔_}
 use mathlib.Core.List.{List, []}
 use lib.Dec.{eqb, leb}
 use lib.Bits.{bitOr}
+use lib.Pow.{pow-pos}
 use borrow.Author.Tests.{leb-true, eq-eqb, ne-eqb}
-use Rattle.rt0.specs.Credential.{_·_, IsEntity, IsName}
-use Rattle.rt0.specs.Completion.{isAbsent, Open, openBy}
-use Rattle.rt0.specs.Word.{bit, noneWords, openWithin, openWords}
-use Rattle.rt0.proofs.Bits.{bit-zero}
-use Rattle.rt0.proofs.BitsBelow.{bits-told, bits-one, bits-other}
-use Rattle.bundle.specs.Held.{shelves}
-use Rattle.tables.specs.Open.{openIn, nothingOpen, absentWord, absentRoles}
+use Rattle.rt0.specs.Credential.{Role, _·_, IsEntity, IsName}
+use Rattle.rt0.specs.Completion.{isAbsent, Open}
+use Rattle.rt0.specs.Word.{bit, bitsBelow, noneWords, openWithin, openWords}
+use Rattle.rt0.proofs.Bits.{bit-zero, bits-same}
+use Rattle.rt0.proofs.BitsBelow.{bits-told, bits-small, bits-one, bits-other}
+use Rattle.base.specs.Lowest.{lowest, anyBelow}
+use Rattle.base.proofs.Flags.{and-right}
+use Rattle.base.proofs.Lowest.{clash, any-false, any-true}
+use Rattle.bundle.specs.Held.{shelves, openOf}
+use Rattle.tables.specs.Open.{someAbsent, openWith, namesIn, openNames, openIn, nothingOpen, absentWord, openedRoles}
 use Rattle.tables.proofs.Starts.{none-grows}
 
 -- ---- nothing
@@ -57,24 +61,65 @@ module _ (E R W : ℕ) (o p : Open) (agree : (A r : ℕ) → IsEntity E A → Is
   open-same zero = refl
   open-same (suc n) = rw (open-same n, within-same (n / W) (n % W))
 
--- ---- the absent entities
+-- ---- the absent entities, and the names that any of them opens
+
+and-true : (x : Bool) → (x && true) ≡ x
+and-true true = refl
+and-true false = refl
+
+or-none : (x : Bool) → (x || false) ≡ x
+or-none true = refl
+or-none false = refl
+
+-- the bits of a test are none exactly where it holds nowhere
+module _ (test : ℕ → Bool) (n : ℕ) where
+  bits-nowhere : anyBelow test n ≡ false → bitsBelow test n ≡ 0
+  bits-nowhere e = bits-same n (bitsBelow test n) 0 (bits-small test n) (pow-pos n) (λ d _. (
+    λ one. let (l, h) = bits-told test n d .0 one in absurd (clash (test d) h (any-false test n e d l)),
+    λ one. absurd (omega (arith, bit-zero d)),
+  ))
+
+  bits-some : anyBelow test n ≡ true → eqb (bitsBelow test n) 0 ≡ false
+  bits-some e =
+      let (l, h) = any-true test n e in
+      let one = bits-told test n (lowest test n) .1 (l, h) in
+      ne-eqb (bitsBelow test n) 0 (λ none. absurd (omega (arith, bit-zero (lowest test n), rw none at one)))
 
 module _ (bytes : List ℕ) where
-  flag : (w d : ℕ) (b : Bool) → (bit w d ≡ 1) ↔ (b ≡ true) → (eqb (bit w d) 1 || false) ≡ b
+  flag : (w d : ℕ) (b : Bool) → (bit w d ≡ 1) ↔ (b ≡ true) → eqb (bit w d) 1 ≡ b
   flag w d true h = rw (eq-eqb (bit w d) 1 (h .1 refl))
   flag w d false h = rw (ne-eqb (bit w d) 1 (λ e. true≢false (sym (h .0 e))))
 
-  absent-open : (E A r : ℕ) → IsEntity E A → openIn (absentRoles bytes E) (A · r) ≡ openBy (shelves bytes) (A · r)
+  absent-open : (E A : ℕ) → IsEntity E A → eqb (bit (absentWord bytes E) (A - 1)) 1 ≡ isAbsent (shelves bytes A)
   unfolding absentWord
-  absent-open E A r i =
+  absent-open E A i =
       let same : suc (A - 1) ≡ A = omega arith in
       let told = bits-told (λ d. isAbsent (shelves bytes (suc d))) E (A - 1) in
-      rw (bit-zero (r - 1)) (flag (absentWord bytes E) (A - 1) (isAbsent (shelves bytes A))
-      (λ h. rw same at (told .0 h .1), λ e. told .1 (omega arith, rw same e)))
+      flag (absentWord bytes E) (A - 1) (isAbsent (shelves bytes A)) (λ h. rw same at (told .0 h .1), λ e. told .1 (omega arith, rw same e))
+
+  -- the names given are open if any entity is absent: only then is the word of the absent ones not 0
+  names-open : (E names r : ℕ) (b : Bool) → b ≡ someAbsent (shelves bytes) E
+      → eqb (bit (cond (eqb (absentWord bytes E) 0) 0 names) r) 1 ≡ (eqb (bit names r) 1 && b)
+  unfolding absentWord
+  names-open E names r true e = rw (bits-some _ E (sym e)) (sym (and-true (eqb (bit names r) 1)))
+  names-open E names r false e = rw (bits-nowhere _ E (sym e), bit-zero r) (sym (and-right (eqb (bit names r) 1) false refl))
+
+  opened-agree : (E names A r : ℕ) → IsEntity E A
+      → openIn (openedRoles bytes E names) (A · r) ≡ openWith (namesIn names) (shelves bytes) E (A · r)
+  opened-agree E names A r i = rw (absent-open E A i, names-open E names (r - 1) (someAbsent (shelves bytes) E) refl)
 
   -- the table that the rounds start from, by the paper's test
-  pub absent-start : (E R W n : ℕ) → openWords E R W (openIn (absentRoles bytes E)) n ≡ openWords E R W (openBy (shelves bytes)) n
-  absent-start E R W n = open-same E R W (openIn (absentRoles bytes E)) (openBy (shelves bytes)) (λ A r a _. absent-open E A r a) n
+  pub opened-start : (E R W names n : ℕ)
+      → openWords E R W (openIn (openedRoles bytes E names)) n ≡ openWords E R W (openWith (namesIn names) (shelves bytes) E) n
+  opened-start E R W names n =
+      open-same E R W (openIn (openedRoles bytes E names)) (openWith (namesIn names) (shelves bytes) E) (λ A r a _. opened-agree E names A r a) n
+
+  -- with no names, that of an absent shelf
+  no-names : (ρ : Role) → openNames 0 bytes ρ ≡ openOf bytes ρ
+  no-names (A · r) = rw (bit-zero (r - 1)) (or-none (isAbsent (shelves bytes A)))
+
+  pub open-alone : openNames 0 bytes ≡ openOf bytes
+  open-alone = fun-ext no-names
 
 -- ---- as the code works the word out
 
@@ -87,3 +132,11 @@ module _ (bytes : List ℕ) (n word : ℕ) (e : word ≡ absentWord bytes n) (ab
   pub absent-other : absent ≡ false → word ≡ absentWord bytes (n + 1)
   unfolding absentWord
   absent-other t = bits-other _ n word e (rw add-one at (sym q ∙ t))
+
+-- the value of the word, where it is 0 and where it is not
+module _ (bytes : List ℕ) (E names word : ℕ) (e : word ≡ absentWord bytes E) where
+  pub opened-none : word ≡ 0 → record { entities = word; names = 0 } ≡ openedRoles bytes E names
+  opened-none z = rw (← e, eq-eqb word 0 z)
+
+  pub opened-some : (word ≡ 0 → ⊥) → record { entities = word; names = names } ≡ openedRoles bytes E names
+  opened-some z = rw (← e, ne-eqb word 0 z)

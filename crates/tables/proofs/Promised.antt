@@ -14,7 +14,7 @@ use Rattle.rt0.specs.Credential.{_·_, Credential, IsEntity, IsName}
 use Rattle.rt0.specs.Membership.{Assignment, Member}
 use Rattle.rt0.specs.Table.{distinctHeads}
 use Rattle.rt0.specs.Table.{Rounds as IsRounds}
-use Rattle.rt0.specs.Completion.{Open, openBy, Completable}
+use Rattle.rt0.specs.Completion.{Open, Completable}
 use Rattle.rt0.specs.Word.{wordAt, place, noneWords, openWords, Shows}
 use Rattle.rt0.proofs.Possible.{Possible, possible-completable}
 use Rattle.rt0.proofs.Settle.{settled-rounds, settled-sure, settled-possible}
@@ -26,7 +26,7 @@ use Rattle.base.proofs.Refusals.{due-first, due-later, clear-both, one-place-bo
 use Rattle.bundle.specs.Layout.{entitiesOf, namesOf}
 use Rattle.bundle.specs.Rows.{readerRows, Reads, Accepts}
 use Rattle.bundle.specs.declared.read.Reading.the-variants as reading
-use Rattle.bundle.specs.Held.{held, openOf}
+use Rattle.bundle.specs.Held.{held, shelves}
 use Rattle.bundle.proofs.Refusals.{reader-places, reader-numbers}
 use Rattle.bundle.proofs.Determined.{reads-refused}
 use Rattle.bundle.proofs.Accepted.{Contents, accepted-contents}
@@ -37,10 +37,10 @@ use Rattle.words.specs.Sizes.{mostEntities, width, tableWords}
 use Rattle.words.specs.Give.{copiedOver}
 use Rattle.tables.specs.declared.start.OpenRoles.{OpenRoles}
 use Rattle.tables.specs.Rest.{AtRest, RestsIn}
-use Rattle.tables.specs.Open.{nothingOpen, absentRoles, startWords}
-use Rattle.tables.specs.Promise.{Tables, tables, TableLeft, FilledWith, TablesShort, tablesWrong, shortRow, tableRows, TablesPromise}
+use Rattle.tables.specs.Open.{openWith, namesIn, openNames, nothingOpen, openedRoles, startWords}
+use Rattle.tables.specs.Promise.{Tables, tables, TableLeft, FilledWith, TablesShort, tablesWrong, shortRow, tableRows, TablesWith}
 use Rattle.tables.proofs.Held.{held-entities, held-names}
-use Rattle.tables.proofs.Opened.{nothing-open, absent-start}
+use Rattle.tables.proofs.Opened.{nothing-open, opened-start}
 
 -- ---- lent words
 
@@ -118,12 +118,12 @@ module _ (bytes : List ℕ) {s : Sizes} (h : Accepts bytes s) where
   sure-shown n ws r =
       settled-sure E R mostEntities width (held-entities bytes h) (held-names bytes h) (held bytes) (contents .valid) n ws (r .settled)
 
-  possible-shown : (n : ℕ) (ws : List ℕ) → AtRest E (held bytes) (openWords E R width (openOf bytes) tableWords) n ws
-      → Shows mostEntities width ws (Completable E R (openOf bytes) (held bytes))
-  possible-shown n ws r =
-      shows-as mostEntities width ws (Possible E R (openOf bytes) (held bytes)) (Completable E R (openOf bytes) (held bytes))
-      (λ ρ D. Iff·symm (possible-completable E R (openOf bytes) (held bytes) (contents .valid) ρ D))
-      (settled-possible E R mostEntities width (held-entities bytes h) (held-names bytes h) (held bytes) (contents .valid) (openOf bytes) n ws
+  possible-shown : (isOpen : Open) (n : ℕ) (ws : List ℕ) → AtRest E (held bytes) (openWords E R width isOpen tableWords) n ws
+      → Shows mostEntities width ws (Completable E R isOpen (held bytes))
+  possible-shown isOpen n ws r =
+      shows-as mostEntities width ws (Possible E R isOpen (held bytes)) (Completable E R isOpen (held bytes))
+      (λ ρ D. Iff·symm (possible-completable E R isOpen (held bytes) (contents .valid) ρ D))
+      (settled-possible E R mostEntities width (held-entities bytes h) (held-names bytes h) (held bytes) (contents .valid) isOpen n ws
       (r .settled))
 
   -- the number of rounds, and its bound
@@ -146,28 +146,29 @@ module _ (bytes : List ℕ) (before : Tables) where
   pub table-numbers : AllNumbered (tableRows bytes before)
   table-numbers = numbered-both (readerRows bytes) (shortRow before ∷ []) (reader-numbers bytes) (omega arith, tt)
 
-  pub refused-read : (number place : ℕ) → Reads bytes (reading.Refused number place) → TablesPromise bytes before before (Refused number place)
-  refused-read number place r =
+  pub refused-read : (isOpen : Open) (number place : ℕ) → Reads bytes (reading.Refused number place) → TablesWith isOpen bytes before before (Refused number place)
+  refused-read isOpen number place r =
       refused (due-first (readerRows bytes) (shortRow before ∷ []) number place (reads-refused bytes number place r))
       (record { sizes = refl; rounds = refl; untouched = refl })
 
   module _ {s : Sizes} (h : Accepts bytes s) where
-    pub refused-short : tablesWrong before ≡ true → TablesPromise bytes before before (Refused 8 0)
-    refused-short w =
+    pub refused-short : (isOpen : Open) → tablesWrong before ≡ true → TablesWith isOpen bytes before before (Refused 8 0)
+    refused-short isOpen w =
         refused (due-later (readerRows bytes) (shortRow before ∷ []) 8 0 (h .clear) (inl (refl, (refl, short-tells before .0 w))))
         (record { sizes = refl; rounds = refl; untouched = refl })
 
-    pub both-left : (n m : ℕ) (after : Tables) → tablesWrong before ≡ false
+    pub both-left : (names n m : ℕ) (after : Tables) → tablesWrong before ≡ false
         → RestsIn (s .entities) (held bytes) (startWords s nothingOpen) (before .sure) n (after .sure)
-        → RestsIn (s .entities) (held bytes) (startWords s (absentRoles bytes (s .entities))) (before .possible) m (after .possible)
-        → TablesPromise bytes before after (Rounds s n)
-    both-left n m after enough x y =
+        → RestsIn (s .entities) (held bytes) (startWords s (openedRoles bytes (s .entities) names)) (before .possible) m (after .possible)
+        → TablesWith (openNames names bytes) bytes before after (Rounds s n)
+    both-left names n m after enough x y =
         let (first, second) = tables-enough (before .sure) (before .possible) enough in
         let nobody = rw nothing-open at (x .rests) in
-        let everyone = rw absent-start at (y .rests) in
+        let isOpen : Open = openWith (namesIn names) (shelves bytes) (s .entities) in
+        let everyone = rw opened-start at (y .rests) in
         let (least, few) = rounds-settled bytes h n (take tableWords (after .sure)) nobody in
-        let possible : TableLeft (Completable (s .entities) (s .names) (openOf bytes) (held bytes)) (before .possible) (after .possible) =
-        table-left y (possible-shown bytes h m (take tableWords (after .possible)) everyone) second in
+        let possible : TableLeft (Completable (s .entities) (s .names) isOpen (held bytes)) (before .possible) (after .possible) =
+        table-left y (possible-shown bytes h isOpen m (take tableWords (after .possible)) everyone) second in
         let E : s .entities ≡ entitiesOf bytes = contents bytes h .entities in
         let R : s .names ≡ namesOf bytes = contents bytes h .names in
         passed refl refl

@@ -1,15 +1,34 @@
--- Which roles are open, as one value that the code computes once and hands on: a word of entities and a word of names.
+-- Which roles are open: by the marks of a bundle and the names that any absent shelf opens; and as one value that the code computes once and
+-- hands on, a word of entities and a word of names.
 use Prim.Native.Nat.{ℕ, suc, _-_}
-use mathlib.Core.Bool.{_||_}
+use mathlib.Core.Bool.{Bool, cond, _&&_, _||_}
 use mathlib.Core.List.{List}
 use lib.Dec.{eqb}
 use Rattle.rt0.specs.Credential.{_·_}
-use Rattle.rt0.specs.Completion.{isAbsent, Open}
+use Rattle.rt0.specs.Completion.{Shelf, isAbsent, Open}
 use Rattle.rt0.specs.Word.{bit, bitsBelow, openWords}
+use Rattle.base.specs.Lowest.{anyBelow}
+use Rattle.bundle.specs.Layout.{entitiesOf}
 use Rattle.bundle.specs.Held.{shelves}
 use Rattle.tables.specs.declared.start.OpenRoles.{OpenRoles}
 use Rattle.bundle.specs.declared.read.Sizes.{Sizes}
 use Rattle.words.specs.Sizes.{width, tableWords}
+
+-- some shelf of entities 1 to E is absent
+abbrev pub someAbsent : (ℕ → Shelf) → ℕ → Bool
+someAbsent shelf E = anyBelow (λ d. isAbsent (shelf (suc d))) E
+
+-- role A.r is open where A's shelf is absent, or where some shelf at all is absent and r is a name whose credentials any shelf may keep
+abbrev pub openWith : (ℕ → Bool) → (ℕ → Shelf) → ℕ → Open
+openWith loose shelf E (A · r) = isAbsent (shelf A) || (loose r && someAbsent shelf E)
+
+-- the names in a word: r at bit r − 1
+abbrev pub namesIn : ℕ → ℕ → Bool
+namesIn names r = eqb (bit names (r - 1)) 1
+
+-- by a bundle's marks, with these names
+abbrev pub openNames : ℕ → List ℕ → Open
+openNames names bytes = openWith (namesIn names) (shelves bytes) (entitiesOf bytes)
 
 -- role A.r is open where bit A − 1 of the word of entities is 1, or bit r − 1 of the word of names
 abbrev pub openIn : OpenRoles → Open
@@ -23,9 +42,9 @@ nothingOpen = record { entities = 0; names = 0 }
 unfoldable pub absentWord : List ℕ → ℕ → ℕ
 absentWord bytes n = bitsBelow (λ d. isAbsent (shelves bytes (suc d))) n
 
--- the roles of the absent entities up to E are open
-abbrev pub absentRoles : List ℕ → ℕ → OpenRoles
-absentRoles bytes E = record { entities = absentWord bytes E; names = 0 }
+-- the roles of the absent entities up to E are open, and those of the names in a word if any entity is absent
+abbrev pub openedRoles : List ℕ → ℕ → ℕ → OpenRoles
+openedRoles bytes E names = record { entities = absentWord bytes E; names = cond (eqb (absentWord bytes E) 0) 0 names }
 
 -- the table that the rounds start from: everyone in every open role, and nobody elsewhere
 abbrev pub startWords : Sizes → OpenRoles → List ℕ

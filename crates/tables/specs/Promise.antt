@@ -10,14 +10,14 @@ use lib.Dec.{ltb}
 use Rattle.rt0.specs.Membership.{Assignment, Member}
 use Rattle.rt0.specs.Table.{distinctHeads}
 use Rattle.rt0.specs.Table.{Rounds as IsRounds}
-use Rattle.rt0.specs.Completion.{Completable}
+use Rattle.rt0.specs.Completion.{Open, Completable}
 use Rattle.rt0.specs.Holding.{Holding}
 use Rattle.rt0.specs.Word.{Shows}
 use Rattle.base.specs.Refusals.{Row, row, AtZero, Judged}
 use Rattle.bundle.specs.declared.read.Sizes.{Sizes}
 use Rattle.bundle.specs.Layout.{sizesIn}
 use Rattle.bundle.specs.Rows.{readerRows, noSizes}
-use Rattle.bundle.specs.Held.{holdingIn}
+use Rattle.bundle.specs.Held.{openOf, holdingWith}
 use Rattle.tables.specs.declared.Filled.{Filled}
 use Rattle.tables.specs.declared.Filled.the-variants.{Rounds, Refused}
 use Rattle.words.specs.Sizes.{mostEntities, width, tableWords}
@@ -85,10 +85,15 @@ pub record TablesRefused (before after : Tables) (o : Filled) : Type 0 where
   pub untouched : after ≡ before
 
 -- an answer says the bundle's sizes, and leaves its tables
-pub record TablesGiven (bytes : List ℕ) (before after : Tables) (o : Filled) : Type 0 where
+pub record TablesGiven (isOpen : Open) (bytes : List ℕ) (before after : Tables) (o : Filled) : Type 0 where
   pub sizes : sizesOf o ≡ sizesIn bytes
-  pub filled : FilledWith (holdingIn bytes) before after (roundsOf o)
+  pub filled : FilledWith (holdingWith isOpen bytes) before after (roundsOf o)
 
+-- where these roles are open
+abbrev pub TablesWith : Open → List ℕ → Tables → Tables → Filled → Type 0
+TablesWith isOpen bytes before after o =
+    Judged (tableRows bytes before) (numberOf o) (placeOf o) (TablesRefused before after o) (TablesGiven isOpen bytes before after o)
+
+-- by the bundle's marks alone
 abbrev pub TablesPromise : List ℕ → Tables → Tables → Filled → Type 0
-TablesPromise bytes before after o =
-    Judged (tableRows bytes before) (numberOf o) (placeOf o) (TablesRefused before after o) (TablesGiven bytes before after o)
+TablesPromise bytes = TablesWith (openOf bytes) bytes

@@ -4,12 +4,12 @@ ghost use lib.ListN.{length, take};
 ghost use Rattle.bundle.specs.Rows.{Accepts};
 ghost use Rattle.bundle.specs.Held.{held};
 ghost use Rattle.words.specs.Sizes.{tableWords};
-ghost use Rattle.tables.specs.Open.{nothingOpen, startWords};
+ghost use Rattle.tables.specs.Open.{nothingOpen, openNames, startWords};
 ghost use Rattle.tables.specs.Rest.{AtRest, RestsIn};
-ghost use Rattle.tables.specs.Promise.{TablesPromise, tables};
+ghost use Rattle.tables.specs.Promise.{TablesWith, TablesPromise, tables};
 use crate::settle::fill_table;
 use crate::start::OpenRoles;
-use crate::start::absent;
+use crate::start::opened;
 use bundle::read::Reading;
 use bundle::read::Sizes;
 use bundle::read::read;
@@ -52,10 +52,17 @@ fn fill_open(
     fill_table(bundle, sizes, roles, possible)
 }
 
-// The tables of an accepted bundle: the sure one with nothing open, the possible one with the roles of absent entities open.
-fn fill_accepted(bundle: &[u8], sizes: Sizes, sure: &mut [u32], possible: &mut [u32]) -> Filled
+// The tables of an accepted bundle: the sure one with nothing open, the possible one with the roles of absent entities open, and, if any is
+// absent, those of the names given.
+fn fill_accepted(
+    bundle: &[u8],
+    sizes: Sizes,
+    names: u32,
+    sure: &mut [u32],
+    possible: &mut [u32],
+) -> Filled
     requires { ⌜ Accepts (now bundle) sizes ⌝ }
-    ensures { λ w. ⌜ TablesPromise (now (bundle .entry)) (tables (now (sure .entry)) (now (possible .entry)))
+    ensures { λ w. ⌜ TablesWith (openNames names (now (bundle .entry))) (now (bundle .entry)) (tables (now (sure .entry)) (now (possible .entry)))
         (tables (now (sure .exit)) (now (possible .exit))) w ⌝ }
 {
     if (sure.len() < Table::WORDS) | (possible.len() < Table::WORDS) {
@@ -69,7 +76,7 @@ fn fill_accepted(bundle: &[u8], sizes: Sizes, sure: &mut [u32], possible: &mut [
         names: 0,
     };
     let rounds = fill_table(bundle, sizes, nothing, sure);
-    let open = absent(bundle, sizes.entities);
+    let open = opened(bundle, sizes.entities, names);
     fill_open(bundle, sizes, open, rounds, sure, possible);
     Filled::Rounds {
         sizes,
@@ -77,9 +84,9 @@ fn fill_accepted(bundle: &[u8], sizes: Sizes, sure: &mut [u32], possible: &mut [
     }
 }
 
-// The tables of every bundle, in all lent words.
-pub fn fill(bundle: &[u8], sure: &mut [u32], possible: &mut [u32]) -> Filled
-    ensures { λ w. ⌜ TablesPromise (now (bundle .entry)) (tables (now (sure .entry)) (now (possible .entry)))
+// The tables of every bundle, in all lent words, where any absent shelf opens the names in a word.
+pub fn fill_opening(bundle: &[u8], names: u32, sure: &mut [u32], possible: &mut [u32]) -> Filled
+    ensures { λ w. ⌜ TablesWith (openNames names (now (bundle .entry))) (now (bundle .entry)) (tables (now (sure .entry)) (now (possible .entry)))
         (tables (now (sure .exit)) (now (possible .exit))) w ⌝ }
 {
     let reading = read(bundle);
@@ -96,5 +103,13 @@ pub fn fill(bundle: &[u8], sure: &mut [u32], possible: &mut [u32]) -> Filled
             }
         }
     };
-    fill_accepted(bundle, sizes, sure, possible)
+    fill_accepted(bundle, sizes, names, sure, possible)
+}
+
+// The same where an absent shelf opens its own roles alone.
+pub fn fill(bundle: &[u8], sure: &mut [u32], possible: &mut [u32]) -> Filled
+    ensures { λ w. ⌜ TablesPromise (now (bundle .entry)) (tables (now (sure .entry)) (now (possible .entry)))
+        (tables (now (sure .exit)) (now (possible .exit))) w ⌝ }
+{
+    fill_opening(bundle, 0, sure, possible)
 }

@@ -7,7 +7,7 @@ ghost use Rattle.rt0.specs.Completion.{isAbsent};
 ghost use Rattle.rt0.specs.Word.{everyoneWord, openWithin};
 ghost use Rattle.bundle.specs.Held.{shelves};
 ghost use Rattle.words.specs.Sizes.{mostEntities, width, tableWords};
-ghost use Rattle.tables.specs.Open.{openIn, absentRoles, startWords};
+ghost use Rattle.tables.specs.Open.{openIn, absentWord, openedRoles, startWords};
 use bundle::access::Mark;
 use bundle::access::mark_at;
 use bundle::read::Sizes;
@@ -30,10 +30,10 @@ fn is_absent(bundle: &[u8], entity: usize) -> bool
     }
 }
 
-// The roles that a bundle's marks leave open: those of absent entities.
-pub(crate) fn absent(bundle: &[u8], entities: usize) -> OpenRoles
+// The word of the absent entities.
+fn absent(bundle: &[u8], entities: usize) -> u32
     requires { ⌜ entities ≤ mostEntities ⌝ }
-    ensures { λ r. ⌜ r ≡ absentRoles (now (bundle .entry)) entities ⌝ }
+    ensures { λ r. ⌜ r ≡ absentWord (now (bundle .entry)) entities ⌝ }
 {
     let mut word: u32 = 0;
     let mut i: usize = 0;
@@ -43,9 +43,19 @@ pub(crate) fn absent(bundle: &[u8], entities: usize) -> OpenRoles
         }
         i += 1;
     }
+    word
+}
+
+// The roles that a bundle's marks leave open: those of absent entities, and, if there are any, those of the names given.
+pub(crate) fn opened(bundle: &[u8], entities: usize, names: u32) -> OpenRoles
+    requires { ⌜ entities ≤ mostEntities ⌝ }
+    ensures { λ r. ⌜ r ≡ openedRoles (now (bundle .entry)) entities names ⌝ }
+{
+    let word = absent(bundle, entities);
+    let loose = if word == 0 { 0 } else { names };
     OpenRoles {
         entities: word,
-        names: 0,
+        names: loose,
     }
 }
 

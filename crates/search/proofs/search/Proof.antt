@@ -1,35 +1,12 @@
--- `search::search` meets its contract.
-use native.Mathlib.Omega.{arith}
-use borrow.Author.Needs.{needs}
-use mathlib.Core.Path.{sym, _∙_}
+-- `search::search` meets its contract: no names are opened, so that the roles of absent shelves are open alone.
 use denote.Ref.{now}
-use Rattle.base.proofs.Flags.{or-false}
-use Rattle.search.specs.Promise.{lent}
-use Rattle.search.proofs.Judging.{refused-rightly}
+use Rattle.tables.proofs.Opened.{open-alone}
+use borrow.Author.Needs.{needs}
 use Rattle.search.proofs.search.Statement.{statement}
 use Rattle.search.proofs.search.Tie as tie
 
-sizes-of-requires : tie.Need-sizes-of-requires
-sizes-of-requires c κs = search needs
-
-question-wrong-requires : tie.Need-question-wrong-requires
-question-wrong-requires c κs = search needs
-
-refuse-requires : tie.Need-refuse-requires
-refuse-requires c κs = search needs
-
-returns : tie.Need-returns
-returns c =
-    let start = c .before .before .before .before .before .before .before .before in
-    let sizes = c .before .before .before .sizes-of .ensures .0 in
-    let lent' = lent (now (start .args .sure)) (now (start .args .possible)) (now (start .args .slip)) in
-    refused-rightly (now (start .args .bundle)) _ lent' _ _ (rw sizes at (c .before .before .question-wrong .ensures)) (c .before .if1 .taken) (c .refuse .ensures)
-
-work-out-requires : tie.Need-work-out-requires
-work-out-requires c κs =
-    let test = c .before .before .before in
-    let (right, enough) = or-false _ _ (test .if1 .left) in
-    (rw (test .before .before .sizes-of .ensures .0) at (sym (test .before .question-wrong .ensures) ∙ right), enough)
+search-opening-requires : tie.Need-search-opening-requires
+search-opening-requires c κs = search needs
 
 same-length : tie.Need-same-length
 same-length c = search needs
@@ -40,19 +17,11 @@ same-length-2 c = search needs
 same-length-3 : tie.Need-same-length-3
 same-length-3 c = search needs
 
-returns-2 : tie.Need-returns-2
-returns-2 c = c .before .before .before .before .before .before .work-out .ensures
+returns : tie.Need-returns
+returns c =
+    let call = c .before .before .before .before .before .before in
+    let bytes = now (call .before .before .before .before .before .before .before .before .args .bundle) in
+    rw (open-alone bytes) at (call .search-opening .ensures)
 
 pub search-spec : {M : Type 1} → statement M
-search-spec =
-    tie.close
-    (tie.spec
-    sizes-of-requires
-    question-wrong-requires
-    refuse-requires
-    returns
-    work-out-requires
-    same-length
-    same-length-2
-    same-length-3
-    returns-2)
+search-spec = tie.close (tie.spec search-opening-requires same-length same-length-2 same-length-3 returns)

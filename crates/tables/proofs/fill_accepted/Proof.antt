@@ -7,15 +7,15 @@ use Rattle.tables.proofs.fill_accepted.Statement.{statement}
 use Rattle.tables.proofs.fill_accepted.Tie as tie
 
 returns : tie.Need-returns
-returns c = refused-short _ _ (c .before .before .before .before .pre) (c .if1 .taken)
+returns c = refused-short _ _ (c .before .before .before .before .pre) _ (c .if1 .taken)
 
 fill-table-requires : tie.Need-fill-table-requires
 fill-table-requires c κs =
     let start = c .before .before .before .before .before in
     (start .pre, tables-enough (now (start .args .sure)) (now (start .args .possible)) (c .before .if1 .left) .0)
 
-absent-requires : tie.Need-absent-requires
-absent-requires c κs = held-entities _ (c .before .before .before .before .before .before .before .before .pre)
+opened-requires : tie.Need-opened-requires
+opened-requires c κs = held-entities _ (c .before .before .before .before .before .before .before .before .pre)
 
 fill-open-requires : tie.Need-fill-open-requires
 fill-open-requires c κs =
@@ -24,8 +24,8 @@ fill-open-requires c κs =
     let enough = tables-enough (now (start .args .sure)) (now (start .args .possible)) (first .before .before .if1 .left) in
     (start .pre, enough .1, search needs, first .fill-table .ensures .rests)
 
-cast-t19 : tie.Need-cast-t19
-cast-t19 c = search needs
+cast-t20 : tie.Need-cast-t20
+cast-t20 c = search needs
 
 same-length : tie.Need-same-length
 same-length c = search needs
@@ -38,8 +38,8 @@ returns-2 c =
     let marks = c .before .before .before .before .before in
     let first = marks .before .before .before in
     let enough = first .before .before in
-    both-left _ _ (enough .before .before .before .before .pre) _ _ _ (enough .if1 .left) (first .fill-table .ensures)
-    (rw (marks .absent .ensures) at (c .before .before .fill-open .ensures))
+    both-left _ _ (enough .before .before .before .before .pre) _ _ _ _ (enough .if1 .left) (first .fill-table .ensures)
+    (rw (marks .opened .ensures) at (c .before .before .fill-open .ensures))
 
 pub fill-accepted-spec : {M : Type 1} → statement M
 fill-accepted-spec =
@@ -47,9 +47,9 @@ fill-accepted-spec =
     (tie.spec
     returns
     fill-table-requires
-    absent-requires
+    opened-requires
     fill-open-requires
-    cast-t19
+    cast-t20
     same-length
     same-length-2
     returns-2)

@@ -1,15 +1,15 @@
 -- `search::answer::work_out` meets its contract.
 use denote.Ref.{now}
 use Rattle.tables.proofs.Told.{filled-told}
-use Rattle.search.proofs.Concluding.{tables-shown, answered-with}
+use Rattle.search.proofs.Concluding.{sure-shown, answered-with}
 use Rattle.search.specs.Promise.{lent}
 use Rattle.search.proofs.Judging.{lent-enough, asked-of, refused-tables, answered-rightly}
 use borrow.Author.Needs.{needs}
 use Rattle.search.proofs.answer.work_out.Statement.{statement}
 use Rattle.search.proofs.answer.work_out.Tie as tie
 
-fill-requires : tie.Need-fill-requires
-fill-requires c κs = search needs
+fill-opening-requires : tie.Need-fill-opening-requires
+fill-opening-requires c κs = search needs
 
 enum-known-number : tie.Need-enum-known-number
 enum-known-number c = search needs
@@ -20,10 +20,10 @@ enum-known-sizes c = search needs
 conclude-requires : tie.Need-conclude-requires
 conclude-requires c κs =
     let known = c .before .before .before .before in
-    let (accepts, filled) = filled-told _ _ _ _ _ (rw (known .sizes .given .1) at (known .before .before .before .before .before .before .fill .ensures)) in
+    let (accepts, filled) = filled-told _ _ _ _ _ _ (rw (known .sizes .given .1) at (known .before .before .before .before .before .before .fill-opening .ensures)) in
     let start = known .before .before .before .before .before .before .before .before .before .before .before .before .before in
     let enough = lent-enough (lent (now (start .args .sure)) (now (start .args .possible)) (now (start .args .slip))) (start .pre .1) in
-    (asked-of _ _ _ accepts (start .pre .0), tables-shown filled, enough .slip)
+    (asked-of _ _ _ accepts (start .pre .0), sure-shown filled, enough .slip)
 
 same-length : tie.Need-same-length
 same-length c = search needs
@@ -35,7 +35,7 @@ returns : tie.Need-returns
 returns c =
     let known = c .before in
     let start = known .before .before .before .before .before .before .before .before .before .before .before .before .before in
-    refused-tables (now (start .args .bundle)) _ _ _ _ (start .pre .1) _ _ _ (rw (known .number .given .1) at (known .before .before .before .before .before .before .fill .ensures))
+    refused-tables _ (now (start .args .bundle)) _ _ _ _ (start .pre .1) _ _ _ (rw (known .number .given .1) at (known .before .before .before .before .before .before .fill-opening .ensures))
 
 same-length-3 : tie.Need-same-length-3
 same-length-3 c = search needs
@@ -49,15 +49,15 @@ same-length-5 c = search needs
 returns-2 : tie.Need-returns-2
 returns-2 c =
     let known = c .before .before .before .before .before .before .before in
-    let (accepts, filled) = filled-told _ _ _ _ _ (rw (known .sizes .given .1) at (known .before .before .before .before .before .before .fill .ensures)) in
+    let (accepts, filled) = filled-told _ _ _ _ _ _ (rw (known .sizes .given .1) at (known .before .before .before .before .before .before .fill-opening .ensures)) in
     let pre = known .before .before .before .before .before .before .before .before .before .before .before .before .before .pre in
-    answered-rightly _ _ _ _ _ (pre .1) _ _ _ accepts (pre .0) (answered-with filled (c .before .before .conclude .ensures))
+    answered-rightly _ _ _ _ _ _ (pre .1) _ _ _ accepts (pre .0) (answered-with filled (c .before .before .conclude .ensures _ (filled .possible .shows)))
 
 pub work-out-spec : {M : Type 1} → statement M
 work-out-spec =
     tie.close
     (tie.spec
-    fill-requires
+    fill-opening-requires
     enum-known-number
     enum-known-sizes
     conclude-requires
