@@ -187,7 +187,7 @@ module _ (E R : ℕ) (isOpen : Open) where
 abbrev pub SameWithin : ℕ → ℕ → Open → Open → Type 0
 SameWithin E R isOpen other = (ρ : Role) → ValidRole E R ρ → isOpen ρ ≡ other ρ
 
-completable-within : (E R : ℕ) (isOpen other : Open) → SameWithin E R isOpen other → (cs : List Credential) (ρ : Role) (D : ℕ)
+pub completable-within : (E R : ℕ) (isOpen other : Open) → SameWithin E R isOpen other → (cs : List Credential) (ρ : Role) (D : ℕ)
     → Completable E R isOpen cs ρ D → Completable E R other cs ρ D
 completable-within E R isOpen other same cs ρ D (ks, completes, m) = (ks, also, m)
   where

@@ -85,11 +85,12 @@ module _ (test : ℕ → Bool) (n : ℕ) where
       let one = bits-told test n (lowest test n) .1 (l, h) in
       ne-eqb (bitsBelow test n) 0 (λ none. absurd (omega (arith, bit-zero (lowest test n), rw none at one)))
 
-module _ (bytes : List ℕ) where
-  flag : (w d : ℕ) (b : Bool) → (bit w d ≡ 1) ↔ (b ≡ true) → eqb (bit w d) 1 ≡ b
-  flag w d true h = rw (eq-eqb (bit w d) 1 (h .1 refl))
-  flag w d false h = rw (ne-eqb (bit w d) 1 (λ e. true≢false (sym (h .0 e))))
+-- a bit that tells what a flag says
+pub flag : (w d : ℕ) (b : Bool) → (bit w d ≡ 1) ↔ (b ≡ true) → eqb (bit w d) 1 ≡ b
+flag w d true h = rw (eq-eqb (bit w d) 1 (h .1 refl))
+flag w d false h = rw (ne-eqb (bit w d) 1 (λ e. true≢false (sym (h .0 e))))
 
+module _ (bytes : List ℕ) where
   absent-open : (E A : ℕ) → IsEntity E A → eqb (bit (absentWord bytes E) (A - 1)) 1 ≡ isAbsent (shelves bytes A)
   unfolding absentWord
   absent-open E A i =
