@@ -1,10 +1,10 @@
 -- Held and not held: which roles are open, completions, and the three words YES, NO and UNSURE.
 -- A role is open by an arbitrary test. By a bundle's marks it is open where its entity's shelf is absent.
-use Prim.Native.Nat.{ℕ}
+use Prim.Native.Nat.{ℕ, zero, suc}
 use mathlib.Core.Path.{_≡_}
-use mathlib.Core.Bool.{Bool, true, false}
+use mathlib.Core.Bool.{Bool, true, false, _&&_, _||_}
 use mathlib.Core.List.{List, _++_}
-use Rattle.rt0.specs.Credential.{Role, Credential, Valid, IsEntity, ValidRole, head, _∈_, entityOf}
+use Rattle.rt0.specs.Credential.{Role, _·_, Credential, Valid, IsEntity, ValidRole, head, _∈_, entityOf}
 use Rattle.rt0.specs.Membership.{Assignment, Closed, Member}
 
 -- a shelf is present, so that all credentials its entity issued are held, or it is absent
@@ -23,6 +23,15 @@ Open = Role → Bool
 -- a role is open where its entity's shelf is absent
 abbrev pub openBy : (ℕ → Shelf) → Open
 openBy shelf ρ = isAbsent (shelf (entityOf ρ))
+
+-- some shelf of entities 1 to n is absent
+unfoldable pub someAbsent : (ℕ → Shelf) → ℕ → Bool
+someAbsent shelf zero = false
+someAbsent shelf (suc n) = isAbsent (shelf (suc n)) || someAbsent shelf n
+
+-- with names whose credentials any shelf may keep: A.r is open where A's shelf is absent, or where r is such a name and some shelf at all is absent
+abbrev pub openWith : (ℕ → Bool) → (ℕ → Shelf) → ℕ → Open
+openWith loose shelf E (A · r) = isAbsent (shelf A) || (loose r && someAbsent shelf E)
 
 -- a list, of any length, of valid credentials whose heads are open
 abbrev pub Completion : ℕ → ℕ → Open → List Credential → Type 0

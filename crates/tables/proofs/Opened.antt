@@ -5,22 +5,19 @@ use native.Mathlib.Numerals.{add-one}
 use native.Mathlib.Omega.{arith}
 use mathlib.Core.Path.{_≡_, refl, sym, _∙_, fun-ext}
 use mathlib.Core.Bool.{Bool, true, false, cond, _&&_, _||_, true≢false}
-use mathlib.Core.Logic.{_↔_}
+use mathlib.Core.Logic.{_↔_, ⊎-elim}
 use mathlib.Core.List.{List, []}
 use lib.Dec.{eqb, leb}
-use lib.Bits.{bitOr}
-use lib.Pow.{pow-pos}
+use lib.Bits.{bitOr, or-zero-r}
 use borrow.Author.Tests.{leb-true, eq-eqb, ne-eqb}
 use Rattle.rt0.specs.Credential.{Role, _·_, IsEntity, IsName}
-use Rattle.rt0.specs.Completion.{isAbsent, Open}
+use Rattle.rt0.specs.Completion.{Shelf, isAbsent, Open, someAbsent, openWith}
 use Rattle.rt0.specs.Word.{bit, bitsBelow, noneWords, openWithin, openWords}
-use Rattle.rt0.proofs.Bits.{bit-zero, bits-same}
-use Rattle.rt0.proofs.BitsBelow.{bits-told, bits-small, bits-one, bits-other}
-use Rattle.base.specs.Lowest.{lowest, anyBelow}
-use Rattle.base.proofs.Flags.{and-right}
-use Rattle.base.proofs.Lowest.{clash, any-false, any-true}
+use Rattle.rt0.proofs.Bits.{bit-zero}
+use Rattle.rt0.proofs.BitsBelow.{bits-told, bits-one, bits-other}
+use Rattle.base.proofs.Flags.{or-false, or-true, and-right}
 use Rattle.bundle.specs.Held.{shelves, openOf}
-use Rattle.tables.specs.Open.{someAbsent, openWith, namesIn, openNames, openIn, nothingOpen, absentWord, openedRoles}
+use Rattle.tables.specs.Open.{namesIn, openNames, openIn, nothingOpen, absentWord, openedRoles}
 use Rattle.tables.proofs.Starts.{none-grows}
 
 -- ---- nothing
@@ -71,19 +68,30 @@ or-none : (x : Bool) → (x || false) ≡ x
 or-none true = refl
 or-none false = refl
 
--- the bits of a test are none exactly where it holds nowhere
-module _ (test : ℕ → Bool) (n : ℕ) where
-  bits-nowhere : anyBelow test n ≡ false → bitsBelow test n ≡ 0
-  bits-nowhere e = bits-same n (bitsBelow test n) 0 (bits-small test n) (pow-pos n) (λ d _. (
-    λ one. let (l, h) = bits-told test n d .0 one in absurd (clash (test d) h (any-false test n e d l)),
-    λ one. absurd (omega (arith, bit-zero d)),
-  ))
+-- the word of the absent entities is 0 exactly where none is absent
+module _ (shelf : ℕ → Shelf) where
+  abbrev gone : ℕ → Bool
+  gone d = isAbsent (shelf (suc d))
 
-  bits-some : anyBelow test n ≡ true → eqb (bitsBelow test n) 0 ≡ false
-  bits-some e =
-      let (l, h) = any-true test n e in
-      let one = bits-told test n (lowest test n) .1 (l, h) in
-      ne-eqb (bitsBelow test n) 0 (λ none. absurd (omega (arith, bit-zero (lowest test n), rw none at one)))
+  bits-nowhere : (n : ℕ) → someAbsent shelf n ≡ false → bitsBelow gone n ≡ 0
+  unfolding someAbsent bitsBelow
+  bits-nowhere zero e = refl
+  bits-nowhere (suc n) e =
+      let (last, others) = or-false (gone n) (someAbsent shelf n) e in
+      rw (last, or-zero-r, bits-nowhere n others)
+
+  somewhere : (n : ℕ) → someAbsent shelf n ≡ true → (d : ℕ) × (d < n) × (gone d ≡ true)
+  unfolding someAbsent
+  somewhere zero e = absurd (true≢false (sym e))
+  somewhere (suc n) e =
+      ⊎-elim (λ last. (n, omega arith, last)) (λ h. let (d, l, absent) = somewhere n h in (d, omega arith, absent))
+      (or-true (gone n) (someAbsent shelf n) e)
+
+  bits-some : (n : ℕ) → someAbsent shelf n ≡ true → eqb (bitsBelow gone n) 0 ≡ false
+  bits-some n e =
+      let (d, l, absent) = somewhere n e in
+      let one = bits-told gone n d .1 (l, absent) in
+      ne-eqb (bitsBelow gone n) 0 (λ none. absurd (omega (arith, bit-zero d, rw none at one)))
 
 -- a bit that tells what a flag says
 pub flag : (w d : ℕ) (b : Bool) → (bit w d ≡ 1) ↔ (b ≡ true) → eqb (bit w d) 1 ≡ b
@@ -102,8 +110,8 @@ module _ (bytes : List ℕ) where
   names-open : (E names r : ℕ) (b : Bool) → b ≡ someAbsent (shelves bytes) E
       → eqb (bit (cond (eqb (absentWord bytes E) 0) 0 names) r) 1 ≡ (eqb (bit names r) 1 && b)
   unfolding absentWord
-  names-open E names r true e = rw (bits-some _ E (sym e)) (sym (and-true (eqb (bit names r) 1)))
-  names-open E names r false e = rw (bits-nowhere _ E (sym e), bit-zero r) (sym (and-right (eqb (bit names r) 1) false refl))
+  names-open E names r true e = rw (bits-some (shelves bytes) E (sym e)) (sym (and-true (eqb (bit names r) 1)))
+  names-open E names r false e = rw (bits-nowhere (shelves bytes) E (sym e), bit-zero r) (sym (and-right (eqb (bit names r) 1) false refl))
 
   opened-agree : (E names A r : ℕ) → IsEntity E A
       → openIn (openedRoles bytes E names) (A · r) ≡ openWith (namesIn names) (shelves bytes) E (A · r)

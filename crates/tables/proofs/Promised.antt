@@ -14,7 +14,7 @@ use Rattle.rt0.specs.Credential.{_·_, Credential, IsEntity, IsName}
 use Rattle.rt0.specs.Membership.{Assignment, Member}
 use Rattle.rt0.specs.Table.{distinctHeads}
 use Rattle.rt0.specs.Table.{Rounds as IsRounds}
-use Rattle.rt0.specs.Completion.{Open, Completable}
+use Rattle.rt0.specs.Completion.{Open, openWith, Completable}
 use Rattle.rt0.specs.Word.{wordAt, place, noneWords, openWords, Shows}
 use Rattle.rt0.proofs.Possible.{Possible, possible-completable}
 use Rattle.rt0.proofs.Settle.{settled-rounds, settled-sure, settled-possible}
@@ -37,7 +37,7 @@ use Rattle.words.specs.Sizes.{mostEntities, width, tableWords}
 use Rattle.words.specs.Give.{copiedOver}
 use Rattle.tables.specs.declared.start.OpenRoles.{OpenRoles}
 use Rattle.tables.specs.Rest.{AtRest, RestsIn}
-use Rattle.tables.specs.Open.{openWith, namesIn, openNames, nothingOpen, openedRoles, startWords}
+use Rattle.tables.specs.Open.{namesIn, openNames, nothingOpen, openedRoles, startWords}
 use Rattle.tables.specs.Promise.{Tables, tables, TableLeft, FilledWith, TablesShort, tablesWrong, shortRow, tableRows, TablesWith}
 use Rattle.tables.proofs.Held.{held-entities, held-names}
 use Rattle.tables.proofs.Opened.{nothing-open, opened-start}

@@ -1,26 +1,17 @@
 -- Which roles are open: by the marks of a bundle and the names that any absent shelf opens; and as one value that the code computes once and
 -- hands on, a word of entities and a word of names.
 use Prim.Native.Nat.{ℕ, suc, _-_}
-use mathlib.Core.Bool.{Bool, cond, _&&_, _||_}
+use mathlib.Core.Bool.{Bool, cond, _||_}
 use mathlib.Core.List.{List}
 use lib.Dec.{eqb}
 use Rattle.rt0.specs.Credential.{_·_}
-use Rattle.rt0.specs.Completion.{Shelf, isAbsent, Open}
+use Rattle.rt0.specs.Completion.{isAbsent, Open, openWith}
 use Rattle.rt0.specs.Word.{bit, bitsBelow, openWords}
-use Rattle.base.specs.Lowest.{anyBelow}
 use Rattle.bundle.specs.Layout.{entitiesOf}
 use Rattle.bundle.specs.Held.{shelves}
 use Rattle.tables.specs.declared.start.OpenRoles.{OpenRoles}
 use Rattle.bundle.specs.declared.read.Sizes.{Sizes}
 use Rattle.words.specs.Sizes.{width, tableWords}
-
--- some shelf of entities 1 to E is absent
-abbrev pub someAbsent : (ℕ → Shelf) → ℕ → Bool
-someAbsent shelf E = anyBelow (λ d. isAbsent (shelf (suc d))) E
-
--- role A.r is open where A's shelf is absent, or where some shelf at all is absent and r is a name whose credentials any shelf may keep
-abbrev pub openWith : (ℕ → Bool) → (ℕ → Shelf) → ℕ → Open
-openWith loose shelf E (A · r) = isAbsent (shelf A) || (loose r && someAbsent shelf E)
 
 -- the names in a word: r at bit r − 1
 abbrev pub namesIn : ℕ → ℕ → Bool

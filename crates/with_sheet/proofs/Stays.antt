@@ -7,7 +7,7 @@ use mathlib.Core.Bool.{Bool, true, false, _&&_, _||_}
 use mathlib.Core.Logic.{_↔_, _⊎_, inl, inr}
 use mathlib.Core.List.{List}
 use Rattle.rt0.specs.Credential.{Role, _·_, Credential, head, IsName}
-use Rattle.rt0.specs.Completion.{Open, isAbsent, Completable, Verdict, YES, NO, UNSURE, Answers}
+use Rattle.rt0.specs.Completion.{Open, isAbsent, someAbsent, Completable, Verdict, YES, NO, UNSURE, Answers}
 use Rattle.rt0.proofs.Tables.{rounds-unique}
 use Rattle.rt0.proofs.Possible.{SameWithin, answer-unique}
 use Rattle.base.proofs.Flags.{and-left, and-right}
@@ -16,7 +16,6 @@ use Rattle.bundle.specs.Layout.{entitiesOf, namesOf}
 use Rattle.bundle.specs.Held.{shelves, openOf, held, holdingWith}
 use Rattle.bundle.specs.Question.{roleAsked}
 use Rattle.answers.specs.Answer.{Outcome, verdictNumber}
-use Rattle.tables.specs.Open.{someAbsent}
 use Rattle.tables.proofs.Determined.{table-same}
 use Rattle.search.specs.Promise.{Lent, AnsweredWith}
 use Rattle.with_sheet.specs.Open.{loose, openBySheet}

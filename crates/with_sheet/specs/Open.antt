@@ -4,13 +4,11 @@ use Prim.Native.Nat.{ℕ, suc}
 use mathlib.Core.Bool.{Bool, _||_}
 use mathlib.Core.List.{List}
 use lib.Dec.{eqb}
-use Rattle.rt0.specs.Completion.{Open}
+use Rattle.rt0.specs.Completion.{Open, openWith}
 use Rattle.rt0.specs.Word.{bitsBelow}
 use Rattle.bundle.specs.Layout.{entitiesOf}
 use Rattle.bundle.specs.Held.{shelves}
-use Rattle.words.specs.Sizes.{mostEntities}
 use Rattle.sheet.specs.Sheet.{codeOf}
-use Rattle.tables.specs.Open.{openWith}
 
 -- the name has code 1 or 2
 abbrev pub loose : List ℕ → ℕ → Bool
