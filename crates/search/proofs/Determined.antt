@@ -2,14 +2,15 @@
 -- Two calls that keep it are taken apart side by side: both are refused, or both are answered with the same word.
 use Prim.Native.Nat.{ℕ, zero, suc, _-_, _*_, _≤_, max}
 use mathlib.Core.Path.{_≡_, refl, sym, ap, _∙_}
+use mathlib.Core.Logic.{⊎-elim}
 use mathlib.Core.List.{List}
 use native.Mathlib.Omega.{arith}
 use lib.ListN.{drop}
 use Rattle.rt0.specs.Credential.{Role}
 use Rattle.rt0.specs.Book.{Book}
 use Rattle.rt0.specs.Holding.{Holding}
-use Rattle.base.specs.Refusals.{refused, passed}
-use Rattle.base.proofs.Refusals.{due-unique, due-clear}
+use Rattle.base.specs.Refusals.{Row, AllOnePlace, Judged}
+use Rattle.base.proofs.Refusals.{judged-same}
 use Rattle.bundle.specs.declared.question.Question.{Question}
 use Rattle.bundle.specs.Held.{holdingWith}
 use Rattle.rt0.specs.Completion.{Open, Verdict, YES, NO, UNSURE}
@@ -18,7 +19,7 @@ use Rattle.rt0.proofs.Possible.{answer-unique}
 use Rattle.answers.specs.declared.Answer.{Answer}
 use Rattle.answers.specs.declared.Answer.the-variants.{Yes, No, Unsure, Refused as AnswerRefused}
 use Rattle.answers.specs.Answer.{Outcome, verdictNumber, outcomeOf}
-use Rattle.search.specs.Promise.{Lent, SlipLeft, searchRows, AnsweredWith, PromiseWith}
+use Rattle.search.specs.Promise.{Lent, SlipLeft, searchRows, RefusedWith, AnsweredWith, PromiseWith}
 use Rattle.search.proofs.Judging.{search-places}
 use Rattle.search.specs.Agreement.{Agreement}
 use Rattle.tables.proofs.Comparing.{drop-later}
@@ -82,15 +83,24 @@ module _ (isOpen : Open) (bytes : List ℕ) (q : Question) (before after-one aft
         slip = λ other. slip-stays p other .1 ∙ sym (slip-stays r (λ e. other (verdicts ∙ e)) .1);
       }
 
-  pub promise-determines : PromiseWith isOpen bytes q before after-one one → PromiseWith isOpen bytes q before after-two two → Agreement one after-one two after-two
-  promise-determines (refused d k) (refused e l) =
-      let (number, place) = due-unique (searchRows bytes q before) (search-places bytes q before) (one .number) (one .place) (two .number) (two .place) d e in
+  refused-same : one .number ≡ two .number → one .place ≡ two .place → RefusedWith before after-one one → RefusedWith before after-two two
+      → Agreement one after-one two after-two
+  refused-same number place k l =
       let outcomes : one ≡ two = cc (k .outcome, l .outcome) in
       let afters : after-one ≡ after-two = k .untouched ∙ sym (l .untouched) in
       rw (outcomes, afters) (agrees-itself two after-two)
-  promise-determines (refused d k) (passed _ _ c r) = absurd (due-clear (searchRows bytes q before) (one .number) (one .place) c d)
-  promise-determines (passed _ _ c p) (refused e l) = absurd (due-clear (searchRows bytes q before) (two .number) (two .place) c e)
-  promise-determines (passed _ _ _ p) (passed _ _ _ r) = answered-same p r
+
+  -- by any table of refusals
+  pub judged-agree : (rows : List Row) → AllOnePlace rows
+      → Judged rows (one .number) (one .place) (RefusedWith before after-one one) (AnsweredWith (holdingWith isOpen bytes) q before after-one one)
+      → Judged rows (two .number) (two .place) (RefusedWith before after-two two) (AnsweredWith (holdingWith isOpen bytes) q before after-two two)
+      → Agreement one after-one two after-two
+  judged-agree rows places p r =
+      let (number, place, both) = judged-same rows places p r in
+      ⊎-elim (λ (k, l). refused-same number place k l) (λ (a, b). answered-same a b) both
+
+  pub promise-determines : PromiseWith isOpen bytes q before after-one one → PromiseWith isOpen bytes q before after-two two → Agreement one after-one two after-two
+  promise-determines p r = judged-agree (searchRows bytes q before) (search-places bytes q before) p r
 
 -- the answer with an outcome, found by its verdict: 0 is a refusal
 answerBy : ℕ → Outcome → Answer

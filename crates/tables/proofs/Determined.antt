@@ -18,14 +18,14 @@ use Rattle.rt0.proofs.Shown.{place-of}
 use Rattle.rt0.proofs.Tables.{rounds-unique}
 use Rattle.tables.specs.declared.Filled.{Filled}
 use Rattle.words.specs.Sizes.{mostEntities, width, tableWords}
-use Rattle.base.specs.Refusals.{refused, passed}
+use Rattle.base.specs.Refusals.{Row, Clear, AllOnePlace, AllNumbered, Judged, refused, passed}
 use Rattle.base.proofs.Refusals.{due-clear, due-number, due-unique, clear-first}
 use Rattle.bundle.specs.Layout.{sizesIn}
 use Rattle.bundle.specs.Rows.{readerRows}
 use Rattle.bundle.specs.Held.{held}
 use Rattle.bundle.proofs.Determined.{some-sizes}
 use Rattle.tables.specs.declared.Filled.the-variants.{Rounds, Refused}
-use Rattle.tables.specs.Promise.{Tables, tables, TableLeft, shortRow, tableRows, TablesWith}
+use Rattle.tables.specs.Promise.{Tables, tables, TableLeft, numberOf, placeOf, shortRow, tableRows, TablesRefused, TablesGiven, TablesWith}
 use Rattle.tables.proofs.Promised.{table-places, table-numbers}
 
 -- two tables that the same promise leaves are equal: the first tableWords words have the same bits, the others are as they were
@@ -50,22 +50,32 @@ abbrev pub Same : Filled → Tables → Filled → Tables → Type 0
 Same one after-one two after-two = (one ≡ two) × (after-one ≡ after-two)
 
 module _ (isOpen : Open) (bytes : List ℕ) (before after-one after-two : Tables) where
+  -- by any table of refusals that has the reader's
+  module _ (rows : List Row) (places : AllOnePlace rows) (numbered : AllNumbered rows) (accepted : Clear rows → Clear (readerRows bytes)) where
+    pub judged-equal : (one two : Filled)
+        → Judged rows (numberOf one) (placeOf one) (TablesRefused before after-one one) (TablesGiven isOpen bytes before after-one one)
+        → Judged rows (numberOf two) (placeOf two) (TablesRefused before after-two two) (TablesGiven isOpen bytes before after-two two)
+        → Same one after-one two after-two
+    judged-equal (Rounds s n) (Rounds t m) (passed _ _ c f) (passed _ _ d g) =
+        let rounds = rounds-unique (held bytes) n m (f .filled .rounds) (g .filled .rounds) in
+        let sizes : s ≡ t = f .sizes ∙ sym (g .sizes) in
+        (cc, ap₂ tables (table-same (f .filled .sure) (g .filled .sure)) (table-same (f .filled .possible) (g .filled .possible)))
+    judged-equal (Rounds s n) two (refused d k) q = absurd (omega (arith, due-number rows numbered 0 0 d))
+    judged-equal (Rounds s n) (Rounds t m) (passed _ _ c f) (refused d k) =
+        absurd (omega (arith, due-number rows numbered 0 0 d))
+    judged-equal (Rounds s n) (Refused m p) (passed _ _ c f) (refused d k) = absurd (due-clear rows m p c d)
+    judged-equal (Rounds s n) (Refused m p) (passed _ _ c f) (passed _ _ _ g) = absurd (some-sizes bytes (accepted c) (g .sizes))
+    judged-equal (Refused n p) two (passed _ _ c f) q = absurd (some-sizes bytes (accepted c) (f .sizes))
+    judged-equal (Refused n p) (Rounds t m) (refused d k) (refused e l) =
+        absurd (omega (arith, due-number rows numbered 0 0 e))
+    judged-equal (Refused n p) (Rounds t m) (refused d k) (passed _ _ c f) = absurd (due-clear rows n p c d)
+    judged-equal (Refused n p) (Refused m q) (refused d k) (refused e l) =
+        let (same, place) = due-unique rows places n p m q d e in
+        (cc, k .untouched ∙ sym (l .untouched))
+    judged-equal (Refused n p) (Refused m q) (refused d k) (passed _ _ c f) = absurd (some-sizes bytes (accepted c) (f .sizes))
+
   pub tables-determined : (one two : Filled) → TablesWith isOpen bytes before after-one one → TablesWith isOpen bytes before after-two two
       → Same one after-one two after-two
-  tables-determined (Rounds s n) (Rounds t m) (passed _ _ c f) (passed _ _ d g) =
-      let rounds = rounds-unique (held bytes) n m (f .filled .rounds) (g .filled .rounds) in
-      let sizes : s ≡ t = f .sizes ∙ sym (g .sizes) in
-      (cc, ap₂ tables (table-same (f .filled .sure) (g .filled .sure)) (table-same (f .filled .possible) (g .filled .possible)))
-  tables-determined (Rounds s n) two (refused d k) q = absurd (omega (arith, due-number (tableRows bytes before) (table-numbers bytes before) 0 0 d))
-  tables-determined (Rounds s n) (Rounds t m) (passed _ _ c f) (refused d k) =
-      absurd (omega (arith, due-number (tableRows bytes before) (table-numbers bytes before) 0 0 d))
-  tables-determined (Rounds s n) (Refused m p) (passed _ _ c f) (refused d k) = absurd (due-clear (tableRows bytes before) m p c d)
-  tables-determined (Rounds s n) (Refused m p) (passed _ _ c f) (passed _ _ _ g) = absurd (some-sizes bytes (clear-first (readerRows bytes) (shortRow before ∷ []) c) (g .sizes))
-  tables-determined (Refused n p) two (passed _ _ c f) q = absurd (some-sizes bytes (clear-first (readerRows bytes) (shortRow before ∷ []) c) (f .sizes))
-  tables-determined (Refused n p) (Rounds t m) (refused d k) (refused e l) =
-      absurd (omega (arith, due-number (tableRows bytes before) (table-numbers bytes before) 0 0 e))
-  tables-determined (Refused n p) (Rounds t m) (refused d k) (passed _ _ c f) = absurd (due-clear (tableRows bytes before) n p c d)
-  tables-determined (Refused n p) (Refused m q) (refused d k) (refused e l) =
-      let (same, place) = due-unique (tableRows bytes before) (table-places bytes before) n p m q d e in
-      (cc, k .untouched ∙ sym (l .untouched))
-  tables-determined (Refused n p) (Refused m q) (refused d k) (passed _ _ c f) = absurd (some-sizes bytes (clear-first (readerRows bytes) (shortRow before ∷ []) c) (f .sizes))
+  tables-determined =
+      judged-equal (tableRows bytes before) (table-places bytes before) (table-numbers bytes before)
+      (clear-first (readerRows bytes) (shortRow before ∷ []))
