@@ -1,7 +1,7 @@
 /* Portertrunk for C programs: is this person entitled? Bundles written and appended to, credentials as lines of text,
  * and who must hold a record.
  *
- * Eight functions, proved for every input: any bytes at all may be lent, and each call returns. Link
+ * Ten functions, proved for every input: any bytes at all may be lent, and each call returns. Link
  * target/staticlib/libcapi.a, which `rt staticlib capi` writes (x86-64, System V calling convention).
  *
  * A slice is passed as a pointer and the number of its elements. Where that number is 0 the pointer
@@ -9,14 +9,14 @@
  *
  * Nothing is asked of what the memory holds. What a C caller must keep is what the proof's own language
  * guarantees of every slice: that many elements stand at the pointer, and may be read; the tables are
- * aligned to 4 bytes; memory that is lent for writing (sure, possible, slip of the search and the tables;
+ * aligned to 4 bytes; memory that is lent for writing (sure, possible, slip of the searches and the tables;
  * bundle of write and append; records of read_lines, text of write_lines) may be written, overlaps no other memory of the
  * same call, and no other thread touches it meanwhile. So neither the list of records nor the record that is appended may
  * stand in the bundle's buffer, and a text and its records need two buffers.
  *
  * A question is three numbers: is the person d a member of the role r of the entity a?
  *
- * The result of the search, of the tables and of the check holds five numbers:
+ * The result of the search and of the tables, without and with a sheet, and of the check holds five numbers:
  *
  *     bits 56 to 63  number   0, or the number of a refusal
  *     bits 40 to 55  place    0, or where the refusal was found
@@ -60,8 +60,8 @@
  *     64  a role name of a record is 0 or above the number of names; place: the record
  *     65  a byte of a record that its form does not use is not zero; place: the record
  *     15  the sheet has not 512 bytes, or its check, a code, a byte that should be zero, byte 508 or its number of names is
- *         wrong (holders only; before 7); place 0
- *      7  the question names an entity or a role name that the bundle does not have, or 0 (search and check), or a record that
+ *         wrong (with a sheet only: after the bundle's own refusals, before 7 and 8); place 0
+ *      7  the question names an entity or a role name that the bundle does not have, or 0 (searches and check), or a record that
  *         it does not have, or 0 (holders); place 0
  *      8  a lent table has fewer than 512 words (search and tables), or the slip buffer fewer than 61,440 bytes (search only); place 0
  *      9  the slip's length is 0, above 61,440 or no multiple of 8 (check only); place 0
@@ -111,6 +111,23 @@ uint64_t portertrunk_search(const uint8_t *bundle, size_t bundle_bytes, uint8_t 
  * has the number of rounds, with verdict and lines 0. A refused call (1 to 5, 61 to 65, 8) leaves every lent word as it was. */
 uint64_t portertrunk_tables(const uint8_t *bundle, size_t bundle_bytes, uint32_t *sure, size_t sure_words,
                             uint32_t *possible, size_t possible_words);
+
+/* The search of a bundle with a sheet, one block of 512 bytes with the code, 1 to 6, of each role name that the bundle has:
+ * byte r - 1 is the code of name r, bytes from the number of names to 507 are zero, byte 508 is 100, byte 509 the number of
+ * names, and bytes 510 and 511 are the block's check. A present shelf does not complete a role whose name has code 1 or 2:
+ * with a sheet role r of entity a is open if the shelf of a is absent, or if r has code 1 or 2 and any shelf at all is
+ * absent, and `possible` holds the members under at least one completion by credentials of open roles. All else is as
+ * without a sheet: `sure`, the rounds, whether the verdict is YES, and the slips that are accepted. A wrong sheet is
+ * refused 15. */
+uint64_t portertrunk_search_with_sheet(const uint8_t *bundle, size_t bundle_bytes, const uint8_t *sheet, size_t sheet_bytes,
+                                       uint8_t d, uint8_t a, uint8_t r, uint32_t *sure, size_t sure_words,
+                                       uint32_t *possible, size_t possible_words, uint8_t *slip, size_t slip_bytes);
+
+/* Fills the two tables of a bundle with a sheet, without a question: as the search with a sheet leaves them, words from 512
+ * on stay. The result has the number of rounds, with verdict and lines 0. A refused call (1 to 5, 61 to 65, 15, 8) leaves
+ * every lent word as it was. */
+uint64_t portertrunk_tables_with_sheet(const uint8_t *bundle, size_t bundle_bytes, const uint8_t *sheet, size_t sheet_bytes,
+                                       uint32_t *sure, size_t sure_words, uint32_t *possible, size_t possible_words);
 
 /* Checks a slip from anyone, and writes nothing. Accepted, number 0 and the number of lines, exactly if
  * the slip shows that the person is a member by the credentials in the bundle. */

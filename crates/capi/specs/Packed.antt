@@ -1,31 +1,30 @@
--- The packed answers: the promises of the search, of the tables and of the checker, of the five numbers that are packed.
+-- The packed answers: the promises of the search and of the tables, with or without a sheet, and of the checker, of the five numbers that are packed.
 use Prim.Native.Nat.{ℕ}
 use mathlib.Core.Path.{_≡_}
 use mathlib.Core.List.{List}
 use Rattle.answers.specs.Answer.{Outcome}
 use Rattle.answers.specs.Pack.{packed, unpacked}
 use Rattle.bundle.specs.declared.question.Question.{Question}
-use Rattle.search.specs.Promise.{Lent, Promise}
 use Rattle.tables.specs.declared.Filled.{Filled}
-use Rattle.tables.specs.Promise.{Tables, TablesPromise, roundsOf}
+use Rattle.tables.specs.Promise.{roundsOf}
 use Rattle.tables.specs.Promise.{numberOf as filledNumber, placeOf as filledPlace}
 use Rattle.checker.specs.declared.check.Checked.{Checked}
 use Rattle.checker.specs.Rows.{numberOf, placeOf, linesNumber, Checks}
 
--- the five numbers that a result unpacks to keep the promise of the search, and the result is those five packed
-pub record PackedPromise (bytes : List ℕ) (q : Question) (before after : Lent) (result : ℕ) : Type 0 where
+-- the five numbers that a result unpacks to are as a search promises, and the result is those five packed
+pub record PackedPromise (Promised : Outcome → Type 0) (result : ℕ) : Type 0 where
   pub packing : result ≡ packed (unpacked result)
-  pub promise : Promise bytes q before after (unpacked result)
+  pub promise : Promised (unpacked result)
 
 -- the five numbers of what filling the tables answers: it has no verdict and no lines
 abbrev pub filledOutcome : Filled → Outcome
 filledOutcome answer =
     record { number = filledNumber answer; place = filledPlace answer; verdict = 0; rounds = roundsOf answer; lines = 0 }
 
--- the result is the tables' answer, packed
-pub record PackedTables (bundle : List ℕ) (before after : Tables) (result : ℕ) : Type 0 where
+-- the result is the tables' answer, packed, and that is as promised
+pub record PackedTables (Promised : Filled → Type 0) (result : ℕ) : Type 0 where
   pub answer : Filled
-  pub promise : TablesPromise bundle before after answer
+  pub promise : Promised answer
   pub packing : result ≡ packed (filledOutcome answer)
 
 -- the five numbers of the checker's answer: it has no verdict and no rounds

@@ -1,11 +1,24 @@
-// The answers of the writer and of the holders as one number of 64 bits.
+// The answers of the tables, of the writer and of the holders, each as one number of 64 bits.
 ghost use Prim.Native.Nat.{_^_, _<_};
 ghost use mathlib.Core.Path.{_≡_};
+ghost use Rattle.answers.specs.Pack.{Packs};
+ghost use Rattle.capi.specs.Packed.{filledOutcome};
 ghost use Rattle.capi.specs.Written.{packedNumbers, PacksWrote};
 ghost use Rattle.capi.specs.Holders.{packedStorage};
 use answers::pack::pack;
 use storage::Storage;
+use tables::Filled;
 use writer::answer::Wrote;
+
+// The packed number of what filling the tables answers.
+pub(crate) fn pack_filled(filled: Filled) -> u64
+    ensures { λ r. ⌜ Packs (filledOutcome filled) r ⌝ }
+{
+    match filled {
+        Filled::Rounds { sizes: _, rounds } => pack(0, 0, 0, rounds, 0),
+        Filled::Refused { number, place } => pack(number, place, 0, 0, 0),
+    }
+}
 
 // A number in bits 56 to 63, and below it another modulo 2^56.
 fn pack_below(number: u8, below: usize) -> u64
@@ -14,7 +27,7 @@ fn pack_below(number: u8, below: usize) -> u64
     ((number as u64) << 56) + below as u64 % (1 << 56)
 }
 
-// The packed number of an answer.
+// The packed number of the writer's answer.
 pub(crate) fn pack_wrote(answer: Wrote) -> u64
     ensures { λ r. ⌜ PacksWrote answer r ⌝ }
 {

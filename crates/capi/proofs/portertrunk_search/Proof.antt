@@ -20,7 +20,7 @@ same-length-3 : tie.Need-same-length-3
 same-length-3 c = search needs
 
 returns : tie.Need-returns
-returns c = packed-promise _ _ _ _ _ _ (c .pack-answer .ensures) (c .before .before .before .before .before .before .before .search .ensures)
+returns c = packed-promise _ _ _ (c .pack-answer .ensures) (c .before .before .before .before .before .before .before .search .ensures)
 
 pub portertrunk-search-spec : {M : Type 1} → statement M
 portertrunk-search-spec =
