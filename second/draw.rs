@@ -58,7 +58,7 @@ pub const VALID_BUNDLES: Range<usize> = 0..11;
 pub const DAMAGED_BUNDLES: Range<usize> = 11..21;
 
 /// Lent memory that is long enough, at times longer than needed.
-fn enough_lent(random: &mut Random) -> Lent {
+pub fn enough_lent(random: &mut Random) -> Lent {
     let mut lent = Lent::enough();
     if random.once_in(4) {
         lent.sure_words = random.pick(&[512, 513, 600]);
@@ -317,7 +317,7 @@ fn questions_out_of_range(random: &mut Random, turn: usize) -> Case {
 }
 
 /// Puts one of the three numbers of a question out of range.
-fn spoil_question(turn: usize, draft: &Draft, question: &mut Question) {
+pub fn spoil_question(turn: usize, draft: &Draft, question: &mut Question) {
     let (place, highest) = match turn % 3 {
         0 => (&mut question.member, draft.entities),
         1 => (&mut question.entity, draft.entities),

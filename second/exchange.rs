@@ -12,7 +12,7 @@
 
 use crate::comparison::first_byte;
 use crate::membership::Table;
-use crate::service::{check, search, Lent, Question, TABLE_WORDS};
+use crate::service::{check, search, Lent, Outcome, Question, TABLE_WORDS};
 use std::io::{self, Read, Write};
 
 /// What every case of a library function starts with: one byte kind, one byte
@@ -220,22 +220,24 @@ pub fn lent_table(table: Option<&Table>, words: usize) -> Vec<u32> {
     lent
 }
 
+/// What comes back of a search: its answer, and lent memory after it.
+pub fn came_of(outcome: &Outcome, lent: Lent) -> Came {
+    let sure = outcome.tables.as_ref().map(|tables| &tables.0);
+    let possible = outcome.tables.as_ref().map(|tables| &tables.1);
+    let mut slip = vec![FILL_BYTE; lent.slip_bytes];
+    slip[..outcome.slip.len()].copy_from_slice(&outcome.slip);
+    Came {
+        packed: outcome.answer.packed(),
+        sure: lent_table(sure, lent.sure_words),
+        possible: lent_table(possible, lent.possible_words),
+        slip,
+    }
+}
+
 /// What this program itself brings back for a case.
 pub fn own_answer(case: &Case) -> Came {
     match &case.task {
-        Task::Search(lent) => {
-            let outcome = search(&case.bundle, case.question, *lent);
-            let sure = outcome.tables.as_ref().map(|tables| &tables.0);
-            let possible = outcome.tables.as_ref().map(|tables| &tables.1);
-            let mut slip = vec![FILL_BYTE; lent.slip_bytes];
-            slip[..outcome.slip.len()].copy_from_slice(&outcome.slip);
-            Came {
-                packed: outcome.answer.packed(),
-                sure: lent_table(sure, lent.sure_words),
-                possible: lent_table(possible, lent.possible_words),
-                slip,
-            }
-        }
+        Task::Search(lent) => came_of(&search(&case.bundle, case.question, *lent), *lent),
         Task::Check(slip) => Came {
             packed: check(&case.bundle, case.question, slip).packed(),
             ..Came::default()

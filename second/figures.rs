@@ -20,6 +20,7 @@ use crate::service::{ask, check, Answer, Question};
 use crate::shape::{self, Draft};
 use crate::slip::{bytes_of, check_slip, lines_of, write_slip, LINE};
 use crate::text_figures::try_text;
+use crate::with_sheet_figures::try_with_sheet;
 use crate::writer_figures::try_writer;
 
 /// Counts what was asked and tells what came out otherwise.
@@ -58,6 +59,7 @@ pub fn try_figures() -> bool {
     try_text(&mut tally);
     try_desk(&mut tally);
     try_holders(&mut tally);
+    try_with_sheet(&mut tally);
     for seed in 0..400 {
         try_mistaken_records(&mut tally, seed);
         try_membership(&mut tally, seed);

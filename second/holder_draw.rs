@@ -91,7 +91,7 @@ fn record_over(random: &mut Random, draft: &Draft, shape: usize, names: [u8; 4])
 }
 
 /// A bundle from some groups of the search's cases, drawn from all over them.
-fn of_the_search(random: &mut Random, groups: Range<usize>) -> Vec<u8> {
+pub fn of_the_search(random: &mut Random, groups: Range<usize>) -> Vec<u8> {
     let number = random.below(100_000);
     let (_, case) = draw_case(&draw::GROUPS[groups], random.next(), number);
     case.bundle

@@ -6,17 +6,20 @@
 //!
 //! Commands, each of the first four with the kind of cases behind it:
 //! `draw` for searches and checks, `draw-writes` for the writer, `draw-lines`
-//! for text lines, `draw-holders` for the holders of a record, `draw-lists`
-//! for the programs that print lists, `draw-desk` for the desk's two programs,
-//! and `draw-holding` for the program that prints the holders of all records.
+//! for text lines, `draw-holders` for the holders of a record, `draw-sheets`
+//! for searches and tables with a sheet, `draw-lists` for the programs that
+//! print lists, `draw-desk` for the desk's two programs, `draw-holding` for the
+//! program that prints the holders of all records, and `draw-asking` for the
+//! one that asks with a sheet.
 //!   draw SEED COUNT FILE     write that many cases to a file
 //!   compare CASES ANSWERS    compare answers with this program's own
 //!   answer CASES ANSWERS     write this program's own answers
 //!   survey CASES             count the expected outcomes of each group
-//!   run-lists CASES ANSWERS COMMAND, and so for desk and holding
+//!   run-lists CASES ANSWERS COMMAND, and so for the kinds behind it
 //!                            write the answers of the programs under test,
 //!                            each started by the command and its name
-//!   ask, members, roles, bundle_from_lines, lines_from_bundle, holders
+//!   ask, members, roles, bundle_from_lines, lines_from_bundle, holders,
+//!   ask_with_sheet
 //!                            answer standard input as that program does
 //!   house DIRECTORY          write the named bundles as files
 //!   figures                  try the figures of the specification
@@ -42,6 +45,7 @@ mod list_figures;
 mod lists;
 mod membership;
 mod mistake;
+mod open_roles;
 mod program;
 mod program_exchange;
 mod random;
@@ -58,6 +62,10 @@ mod text_draw;
 mod text_exchange;
 mod text_figures;
 mod text_flaws;
+mod with_sheet_draw;
+mod with_sheet_exchange;
+mod with_sheet_figures;
+mod with_sheet_programs;
 mod writer;
 mod writer_draw;
 mod writer_exchange;
@@ -73,28 +81,31 @@ use holder_programs::Holding;
 use holders::HOLDERS;
 use list_draw::Lists;
 use lists::{MEMBERS, ROLES};
-use program::{Program, ASK};
+use program::{Program, ASK, ASK_WITH_SHEET};
 use program_exchange::{ProgramCase, ProgramSet};
 use std::env;
 use std::io;
 use std::process::ExitCode;
 use text_exchange::TextCase;
+use with_sheet_exchange::SheetCase;
+use with_sheet_programs::Asking;
 use writer_exchange::WriterCase;
 
 const USAGE: &str = "usage: second draw[-KIND] SEED COUNT FILE | compare[-KIND] CASES ANSWERS | \
     answer[-KIND] CASES ANSWERS | survey[-KIND] CASES | run-KIND CASES ANSWERS COMMAND... | \
-    PROGRAM | house DIRECTORY | figures; KIND is writes, lines, holders, lists, desk or holding, \
-    for run only the last three; PROGRAM is ask, members, roles, bundle_from_lines, \
-    lines_from_bundle or holders";
+    PROGRAM | house DIRECTORY | figures; KIND is writes, lines, holders, sheets, lists, desk, \
+    holding or asking, for run only the last four; PROGRAM is ask, members, roles, \
+    bundle_from_lines, lines_from_bundle, holders or ask_with_sheet";
 
 /// The programs that this one can stand for.
-const PROGRAMS: [Program; 6] = [
+const PROGRAMS: [Program; 7] = [
     ASK,
     MEMBERS,
     ROLES,
     BUNDLE_FROM_LINES,
     LINES_FROM_BUNDLE,
     HOLDERS,
+    ASK_WITH_SHEET,
 ];
 
 fn main() -> ExitCode {
@@ -132,9 +143,11 @@ fn obey_with_kind(command: &str, words: &[&str]) -> io::Result<bool> {
         Some((command, "writes")) => obey_with_cases::<WriterCase>(command, words),
         Some((command, "lines")) => obey_with_cases::<TextCase>(command, words),
         Some((command, "holders")) => obey_with_cases::<HolderCase>(command, words),
+        Some((command, "sheets")) => obey_with_cases::<SheetCase>(command, words),
         Some((command, "lists")) => obey_with_programs::<Lists>(command, words),
         Some((command, "desk")) => obey_with_programs::<Desk>(command, words),
         Some((command, "holding")) => obey_with_programs::<Holding>(command, words),
+        Some((command, "asking")) => obey_with_programs::<Asking>(command, words),
         _ => Err(io::Error::other(USAGE)),
     }
 }

@@ -10,6 +10,7 @@
 //! its table grows. So a fact that table n+1 has and table n lacks rests on at
 //! least one fact that table n has and table n-1 lacks.
 
+use crate::open_roles::absent_roles;
 use crate::reader::{Body, Bundle, Credential, Role};
 use std::collections::{BTreeMap, BTreeSet};
 
@@ -102,14 +103,18 @@ pub fn sure_walk(bundle: &Bundle) -> Walk {
     walk(&bundle.credentials, &Table::new())
 }
 
-/// Membership under at least one completion: everyone is granted to every
-/// role of an absent entity, since that entity may have issued just this.
+/// Membership under at least one completion by absent entities.
 pub fn possible_table(bundle: &Bundle) -> Table {
+    possible_with(bundle, &absent_roles(bundle))
+}
+
+/// Membership under at least one completion by credentials whose heads are
+/// open: everyone is granted to every open role, since a completion may name
+/// just these members.
+pub fn possible_with(bundle: &Bundle, open: &BTreeSet<Role>) -> Table {
     let mut granted = Table::new();
-    for entity in &bundle.absent {
-        for name in 1..=bundle.names {
-            granted.extend((1..=bundle.entities).map(|member| (*entity, name, member)));
-        }
+    for role in open {
+        granted.extend((1..=bundle.entities).map(|member| fact(*role, member)));
     }
     walk(&bundle.credentials, &granted).table
 }

@@ -1,7 +1,7 @@
 //! The programs of the service, each as a function from its whole input to
 //! all that it prints.
 
-use crate::reader::{Refusal, LONGEST_BUNDLE};
+use crate::reader::{Refusal, BLOCK, LONGEST_BUNDLE};
 use crate::service;
 use std::io::{self, Read, Write};
 
@@ -17,6 +17,12 @@ pub const ASK: Program = Program {
     name: "ask",
     longest_input: 3 + LONGEST_BUNDLE,
     prints: |input| format!("{}\n", service::ask(input)).into_bytes(),
+};
+
+pub const ASK_WITH_SHEET: Program = Program {
+    name: "ask_with_sheet",
+    longest_input: 3 + BLOCK + LONGEST_BUNDLE,
+    prints: |input| format!("{}\n", service::ask_with_sheet(input)).into_bytes(),
 };
 
 impl Program {

@@ -83,7 +83,7 @@ impl Exchange for Case {
 }
 
 /// Says nothing when the answer that came is right, else what is wrong.
-fn agree(case: &Case, expected: &Came, came: &Came) -> Result<(), String> {
+pub fn agree(case: &Case, expected: &Came, came: &Came) -> Result<(), String> {
     let wanted = Answer::unpacked(expected.packed);
     let got = Answer::unpacked(came.packed);
     let said_yes = matches!(case.task, Task::Search(_)) && wanted.verdict == YES;

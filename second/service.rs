@@ -3,11 +3,17 @@
 //! Each takes everything a caller hands over, and gives everything that comes
 //! back: the answer and what happens to lent memory. Refusals are asked for in
 //! the order of the table of refusals: the reader's own, 1 to 5 and 61 to 65,
-//! then 7 and what follows.
+//! with a sheet 15, then 7 and what follows.
+//!
+//! A search with a sheet and one without differ in the open roles alone, which
+//! stand beside the bundle once both are read.
 
-use crate::membership::{possible_table, sure_walk, Fact, Table};
-use crate::reader::{read_bundle, Bundle, Refusal};
+use crate::holders::read_both;
+use crate::membership::{possible_with, sure_walk, Fact, Table};
+use crate::open_roles::{absent_roles, open_roles};
+use crate::reader::{read_bundle, Bundle, Refusal, Role, BLOCK};
 use crate::slip::{check_slip, write_slip, LINE, LONGEST_SLIP};
+use std::collections::BTreeSet;
 
 pub const TABLE_WORDS: usize = 512;
 pub const YES: u8 = 1;
@@ -101,20 +107,68 @@ pub struct Outcome {
     pub slip: Vec<u8>,
 }
 
-pub fn search(bytes: &[u8], question: Question, lent: Lent) -> Outcome {
-    let accepted = read_bundle(bytes).and_then(|bundle| {
-        refuse_question(&bundle, question)?;
-        refuse_lent(lent)?;
-        Ok(bundle)
-    });
-    match accepted {
-        Ok(bundle) => answer_question(&bundle, question.fact()),
-        Err(refusal) => Outcome {
+impl Outcome {
+    fn refused(refusal: Refusal) -> Outcome {
+        Outcome {
             answer: Answer::refused(refusal),
             tables: None,
             slip: Vec::new(),
-        },
+        }
     }
+}
+
+/// A bundle and the roles that are open in it.
+type Opened = (Bundle, BTreeSet<Role>);
+
+fn read_alone(bytes: &[u8]) -> Result<Opened, Refusal> {
+    let bundle = read_bundle(bytes)?;
+    let open = absent_roles(&bundle);
+    Ok((bundle, open))
+}
+
+fn read_with_sheet(bytes: &[u8], sheet: &[u8]) -> Result<Opened, Refusal> {
+    let (bundle, sheet) = read_both(bytes, sheet)?;
+    let open = open_roles(&bundle, &sheet);
+    Ok((bundle, open))
+}
+
+pub fn search(bytes: &[u8], question: Question, lent: Lent) -> Outcome {
+    search_in(read_alone(bytes), question, lent)
+}
+
+pub fn search_with_sheet(bytes: &[u8], sheet: &[u8], question: Question, lent: Lent) -> Outcome {
+    search_in(read_with_sheet(bytes, sheet), question, lent)
+}
+
+fn search_in(read: Result<Opened, Refusal>, question: Question, lent: Lent) -> Outcome {
+    let accepted = read.and_then(|(bundle, open)| {
+        refuse_question(&bundle, question)?;
+        refuse_lent(lent)?;
+        Ok(answer_question(&bundle, &open, question.fact()))
+    });
+    accepted.unwrap_or_else(Outcome::refused)
+}
+
+/// The two tables without a question. No slip is asked for, so that only the
+/// tables can be too short.
+pub fn tables_with_sheet(bytes: &[u8], sheet: &[u8], lent: Lent) -> Outcome {
+    let accepted = read_with_sheet(bytes, sheet).and_then(|(bundle, open)| {
+        refuse_lent(Lent {
+            slip_bytes: LONGEST_SLIP,
+            ..lent
+        })?;
+        let walk = sure_walk(&bundle);
+        let possible = possible_with(&bundle, &open);
+        Ok(Outcome {
+            answer: Answer {
+                rounds: walk.rounds as u16,
+                ..Answer::default()
+            },
+            tables: Some((walk.table, possible)),
+            slip: Vec::new(),
+        })
+    });
+    accepted.unwrap_or_else(Outcome::refused)
 }
 
 pub fn check(bytes: &[u8], question: Question, slip: &[u8]) -> Answer {
@@ -147,9 +201,9 @@ fn refuse_lent(lent: Lent) -> Result<(), Refusal> {
     right.then_some(()).ok_or(Refusal::new(8, 0))
 }
 
-fn answer_question(bundle: &Bundle, asked: Fact) -> Outcome {
+fn answer_question(bundle: &Bundle, open: &BTreeSet<Role>, asked: Fact) -> Outcome {
     let walk = sure_walk(bundle);
-    let possible = possible_table(bundle);
+    let possible = possible_with(bundle, open);
     let mut slip = Vec::new();
     let verdict = if walk.table.contains(&asked) {
         slip = write_slip(&walk, asked);
@@ -174,11 +228,29 @@ fn answer_question(bundle: &Bundle, asked: Fact) -> Outcome {
 
 /// The line that the program `ask` prints for its whole input.
 pub fn ask(input: &[u8]) -> String {
-    let (question, bundle) = match input {
-        [member, entity, name, bundle @ ..] => ((*entity, *name, *member), bundle),
+    let (question, bundle) = asked_in(input);
+    in_words(search(bundle, question, Lent::enough()).answer)
+}
+
+/// The line that the program `ask_with_sheet` prints: the sheet stands behind
+/// the question, and where it is cut the bundle is empty.
+pub fn ask_with_sheet(input: &[u8]) -> String {
+    let (question, rest) = asked_in(input);
+    let (sheet, bundle) = rest.split_at_checked(BLOCK).unwrap_or((rest, &[]));
+    in_words(search_with_sheet(bundle, sheet, question, Lent::enough()).answer)
+}
+
+/// The question that an input starts with, and what follows it; nothing where
+/// it has fewer bytes than a question.
+fn asked_in(input: &[u8]) -> (Question, &[u8]) {
+    let (fact, rest) = match input {
+        [member, entity, name, rest @ ..] => ((*entity, *name, *member), rest),
         _ => ((0, 0, 0), &[][..]),
     };
-    let answer = search(bundle, Question::about(question), Lent::enough()).answer;
+    (Question::about(fact), rest)
+}
+
+fn in_words(answer: Answer) -> String {
     match answer.verdict {
         YES => format!("YES {}", answer.rounds),
         NO => format!("NO {}", answer.rounds),

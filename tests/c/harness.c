@@ -4,21 +4,10 @@
  *
  * A case: kind (0 search, 1 check, 2 tables), group, d, a, r, then four numbers of four bytes, low byte first: bytes of the bundle, words
  * of the sure and of the possible table, bytes of the slip buffer or of the slip; then the bundle, and for a check the slip.
- * Lent memory is filled before each call, so that what stays can be told from what is written. */
+ * Lent memory is filled before each call. */
 #include "portertrunk.h"
 #include "cases.h"
-
-static uint32_t *take_words(uint32_t words) {
-    uint32_t *table = take((unsigned long)words * 4);
-    for (uint32_t i = 0; i < words; i++) table[i] = 0xA5A5A5A5u;
-    return table;
-}
-
-static uint8_t *take_bytes(uint32_t bytes) {
-    uint8_t *buffer = take(bytes);
-    for (uint32_t i = 0; i < bytes; i++) buffer[i] = 0x5A;
-    return buffer;
-}
+#include "lent.h"
 
 static void search_case(const uint8_t *head, const uint8_t *bundle, uint32_t bundle_bytes) {
     uint32_t sure_words = number(head + 9), possible_words = number(head + 13), slip_bytes = number(head + 17);
