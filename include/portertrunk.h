@@ -40,15 +40,17 @@
  *     bit  32        well     1 if the record is structurally well typed by the sheet, else 0
  *     bits  0 to 31  shelves  the shelves that must hold it, A is bit A - 1; 0 unless it is well typed
  *
- * The refusals. The first row that applies is the answer, and the place is the lowest that applies. The rows 61 to 65 are one
- * step in that order: the place is the lowest wrong record, and of what is wrong with that record the first row is the answer.
+ * The refusals. The first row that applies is the answer, and the place is the lowest that applies; 2 alone names all of its
+ * places. The rows 61 to 65 are one step in that order: the place is the lowest wrong record, and of what is wrong with that
+ * record the first row is the answer.
  * Search, check and append read a bundle, and give 1 to 5 and 61 to 65 for it. Write gives 1 and 3, 61 to 65 for the records
  * of its list, 12 and 13; append gives the reader's rows, then 61 to 65 for its record, 12 and 13. Read_lines gives 3, then 14,
  * 12 and 13; write_lines gives what write gives. Holders gives the reader's rows, then 15, then 7.
  *
  *      1  the bundle's length is 0, above 3,584 or no multiple of 512; write and write_lines: the list of records is not in whole twelves;
  *         append also: the length is beyond the buffer, or the record has not twelve bytes; place 0
- *      2  the check of a block differs from the one that stands in it; place: the block, from 0
+ *      2  the check of a block differs from the one that stands in it; place: all such blocks, bit k for block k, from 0, at
+ *         most 127. Place 10 = 2 + 8: blocks 1 and 3 are damaged; fetch these two again
  *      3  block 0 breaks its layout: edition, entities, names, records, marks, or a byte that should be zero; write: entities
  *         not 1 to 32, names not 1 to 16, or wrong marks; read_lines and write_lines: these two numbers; place 0
  *      4  the number of blocks does not fit the number of records; place 0

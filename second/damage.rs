@@ -66,27 +66,42 @@ fn eight_blocks(random: &mut Random) -> Vec<u8> {
     draft.bytes()
 }
 
-/// A bundle with a wrong check in a block that the turn names.
+/// A bundle with wrong checks in the blocks that the turn names.
 pub fn damage_check(random: &mut Random, turn: usize, draft: &Draft) -> Vec<u8> {
+    if random.once_in(12) {
+        return check_not_reduced();
+    }
     let mut bytes = draft.bytes();
-    let blocks = bytes.len() / BLOCK;
-    let start = turn % blocks * BLOCK;
-    let low = start + CHECK_PLACE;
-    match random.below(8) {
-        0 => bytes[low] ^= 1 << random.below(8),
-        1 => bytes[low + 1] ^= 1 << random.below(8),
-        2 => change_byte(random, &mut bytes, start),
-        3 => bytes.swap(low, low + 1),
-        4 => bytes[start..start + BLOCK].fill(0),
-        5 => bytes[low..low + 2].fill(0),
-        6 => {
-            change_byte(random, &mut bytes, start);
-            let other = random.below(blocks) * BLOCK;
-            change_byte(random, &mut bytes, other);
-        }
-        _ => return check_not_reduced(),
+    for block in chosen_blocks(turn, bytes.len() / BLOCK) {
+        damage_block(random, &mut bytes, block * BLOCK);
     }
     bytes
+}
+
+/// Of so many blocks, those that the turn names: one alone in every other
+/// turn, and in the others each choice of at least one of them, few and many
+/// mixed.
+fn chosen_blocks(turn: usize, blocks: usize) -> Vec<usize> {
+    let choice = match turn % 2 {
+        0 => 1 << (turn / 2 % blocks),
+        _ => turn / 2 * 37 % ((1 << blocks) - 1) + 1,
+    };
+    (0..blocks)
+        .filter(|block| choice >> block & 1 == 1)
+        .collect()
+}
+
+/// Makes the check of the block that starts here differ, in one of six ways.
+fn damage_block(random: &mut Random, bytes: &mut [u8], start: usize) {
+    let low = start + CHECK_PLACE;
+    match random.below(6) {
+        0 => bytes[low] ^= 1 << random.below(8),
+        1 => bytes[low + 1] ^= 1 << random.below(8),
+        2 => change_byte(random, bytes, start),
+        3 => bytes.swap(low, low + 1),
+        4 => bytes[start..start + BLOCK].fill(0),
+        _ => bytes[low..low + 2].fill(0),
+    }
 }
 
 /// Changes one byte before the check of the block that starts here.

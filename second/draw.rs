@@ -26,7 +26,7 @@ pub const GROUPS: [Group<Case>; 36] = [
     group("absent-shelves", 4, absent_shelves),
     group("small-house", 2, small_house),
     group("bad-lengths", 2, bad_lengths),
-    group("wrong-checks", 3, wrong_checks),
+    group("wrong-checks", 6, wrong_checks),
     group("first-block", 3, first_block),
     group("number-of-blocks", 2, number_of_blocks),
     group("block-ends", 3, block_ends),

@@ -50,6 +50,7 @@ pub fn try_figures() -> bool {
     let mut tally = Tally { asked: 0, wrong: 0 };
     try_answers(&mut tally);
     try_checks(&mut tally);
+    try_damaged_blocks(&mut tally);
     try_house_slip(&mut tally);
     try_walks(&mut tally);
     try_mistakes(&mut tally);
@@ -95,7 +96,7 @@ fn try_answers(tally: &mut Tally) {
         ("P10", self_contained().bytes(), "NO 0"),
         ("241 records", over(), "REFUSED 3 0"),
         ("an empty bundle", Vec::new(), "REFUSED 1 0"),
-        ("a block of zeros", vec![0; BLOCK], "REFUSED 2 0"),
+        ("a block of zeros", vec![0; BLOCK], "REFUSED 2 1"),
     ];
     for (name, bytes, expected) in ones {
         let came = ask_about(Question::about((1, 1, 1)), &bytes);
@@ -110,6 +111,40 @@ fn try_checks(tally: &mut Tally) {
     tally.expect("P12", 6_884, block_check(&bytes[BLOCK..]));
     tally.expect("P12 bytes", &[228, 26][..], &bytes[2 * BLOCK - 2..]);
     tally.expect("check of P8", 12, block_check(&one(&[]).bytes()));
+}
+
+/// What the reader says of seven blocks of which some are damaged.
+fn try_damaged_blocks(tally: &mut Tally) {
+    let right = full().bytes();
+    let refused = |blocks: &[usize]| {
+        let mut bytes = right.clone();
+        for number in blocks {
+            bytes[number * BLOCK + 7] ^= 1;
+        }
+        let refusal = read_bundle(&bytes).err();
+        refusal.map(|refusal| (refusal.number, refusal.place))
+    };
+    let places: [(&[usize], usize); 14] = [
+        (&[0], 1),
+        (&[1], 2),
+        (&[2], 4),
+        (&[3], 8),
+        (&[4], 16),
+        (&[5], 32),
+        (&[6], 64),
+        (&[0, 1], 3),
+        (&[1, 3], 10),
+        (&[0, 6], 65),
+        (&[5, 6], 96),
+        (&[0, 2, 4, 6], 85),
+        (&[1, 2, 3, 4, 5, 6], 126),
+        (&[0, 1, 2, 3, 4, 5, 6], 127),
+    ];
+    tally.expect("no block is damaged", None, refused(&[]));
+    for (blocks, place) in places {
+        let what = format!("damaged blocks {blocks:?}");
+        tally.expect(&what, Some((2, place)), refused(blocks));
+    }
 }
 
 fn try_house_slip(tally: &mut Tally) {

@@ -26,7 +26,7 @@ impl ProgramSet for Lists {
     const PROGRAMS: &'static [Program] = &[MEMBERS, ROLES];
     const GROUPS: &'static [Group<ListCase>] = &[
         group("valid-bundles", 12, valid_bundles),
-        group("damaged-bundles", 14, damaged_bundles),
+        group("damaged-bundles", 18, damaged_bundles),
         group("full-lists", 2, full_lists),
         group("empty-lists", 2, empty_lists),
         group("short-questions", 2, short_questions),

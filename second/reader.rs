@@ -126,13 +126,27 @@ fn refuse_length(bytes: &[u8]) -> Result<(), Refusal> {
 }
 
 fn refuse_checks(bytes: &[u8]) -> Result<(), Refusal> {
-    for (number, block) in bytes.chunks(BLOCK).enumerate() {
-        let carried = u16::from_le_bytes([block[CHECK_PLACE], block[CHECK_PLACE + 1]]);
-        if carried != block_check(block) {
-            return Err(Refusal::new(2, number));
-        }
+    let damaged = damaged_blocks(bytes);
+    if damaged.is_empty() {
+        return Ok(());
     }
-    Ok(())
+    Err(Refusal::new(2, place_of_blocks(&damaged)))
+}
+
+/// The numbers, from 0, of the blocks that don't carry the check they ought to.
+fn damaged_blocks(bytes: &[u8]) -> BTreeSet<usize> {
+    let blocks = bytes.chunks(BLOCK).enumerate();
+    let differing = blocks.filter(|(_, block)| {
+        let carried = u16::from_le_bytes([block[CHECK_PLACE], block[CHECK_PLACE + 1]]);
+        carried != block_check(block)
+    });
+    differing.map(|(number, _)| number).collect()
+}
+
+/// The one number that names a set of blocks: block 0 counts 1, and every
+/// block twice as much as the one before it.
+fn place_of_blocks(blocks: &BTreeSet<usize>) -> usize {
+    blocks.iter().map(|number| 2usize.pow(*number as u32)).sum()
 }
 
 /// Reads block 0, or gives nothing when its layout is broken.

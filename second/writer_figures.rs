@@ -241,7 +241,7 @@ fn try_refused_appends(tally: &mut Tally) {
     expect("a wrong record", &bytes, 1_024, &wrong, 61, 7);
     let mut damaged = bytes.clone();
     damaged[BLOCK + 479] = 1;
-    expect("a wrong check", &damaged, 1_024, &wrong, 2, 1);
+    expect("a wrong check", &damaged, 1_024, &wrong, 2, 2);
     seal(&mut damaged, 1);
     expect("a wrong place", &damaged, 1_024, &wrong, 5, 1);
     damaged[BLOCK + 479] = 0;

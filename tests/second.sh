@@ -6,7 +6,8 @@
 #     work                 a temporary folder
 #     kind                 the kind of its cases, as it stands behind the second program's commands, with a dash, or ''
 #     groups               how many groups of cases there are
-#     outcomes             what the cases must reach, as patterns of grep -E; a wrong record or line at several places
+#     outcomes             what the cases must reach, as patterns of grep -E; a wrong record or line at several places, and
+#                          wrong checks at more than the seven places of a single block
 #     compare SEED COUNT   a function that compares so many cases and prints what the second program says: tests/compare or
 #                          one like it
 
@@ -37,7 +38,7 @@ compare_drawn() { # SEED COUNT
 
 reached() { # NAME OUTCOME
     local line least=1
-    case $2 in *6[1-5] | *14) least=5 ;; esac
+    case $2 in *6[1-5] | *14) least=5 ;; *'refused +2' | *'refused  2') least=8 ;; esac
     line=$(grep -E "^outcome: $2: " "$work/said")
     if [[ $line =~ :\ ([1-9][0-9]*)\ cases,\ different\ places:\ ([0-9]+)$ ]] && [ "${BASH_REMATCH[2]}" -ge "$least" ]; then
         pass "$1: ${line#outcome: }"

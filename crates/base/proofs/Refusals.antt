@@ -14,7 +14,7 @@ use borrow.Author.Tests.{ltb-true, lt-ltb}
 use Rattle.base.specs.Lowest.{LowestBelow, lowest}
 use Rattle.base.specs.Refusals.{Row, AtPlace, AtZero, FromOne, Applies, Clear, Due, Judged, refused, passed}
 use Rattle.base.specs.Refusals.{OnePlace, AllOnePlace, AllNumbered}
-use Rattle.base.specs.Refusals.{Refusal, given, clear, Test, zeroIf, placeBelow, lowestPlace, lowestFromOne, pick, first, Finds, Decided}
+use Rattle.base.specs.Refusals.{Refusal, given, clear, Test, zeroIf, placeBelow, lowestFromOne, pick, first, Finds, Decided}
 use Rattle.base.proofs.Flags.{Tells}
 use Rattle.base.proofs.Lowest.{Missed, IsLowest, lowest-is, lowest-unique, clash}
 
@@ -99,7 +99,7 @@ zero-finds true t p = (λ h. (sym (Option·some-injective 0 p h), t .0 refl), λ
 zero-finds false t p = (λ h. absurd (Option·none-ne-some p h), λ a. absurd (true≢false (sym (t .1 (a .1)))))
 
 -- where the place that is found is one that At has, and none is found where it has none
-finds-below : {At : ℕ → Type 0} (k n place : ℕ) → OnePlace At → (k < n → At place) → ((p : ℕ) → At p → k < n) → Finds (placeBelow k n place) At
+pub finds-below : {At : ℕ → Type 0} (k n place : ℕ) → OnePlace At → (k < n → At place) → ((p : ℕ) → At p → k < n) → Finds (placeBelow k n place) At
 finds-below {At} k n place one hit back p = by (ltb k n) refl
   where
     by : (b : Bool) → ltb k n ≡ b → (cond b (some place) none ≡ some p) ↔ At p
@@ -117,9 +117,6 @@ lowest-back holds n p a = rw (← lowest-unique _ _ _ _ (is-lowest a) (lowest-is
 
 pub lowest-there : (holds : ℕ → Bool) (n : ℕ) → lowest holds n < n → LowestBelow holds n (lowest holds n)
 lowest-there holds n l = record { below = l; holds = lowest-is holds n .hit l; lowest = lowest-is holds n .missed }
-
-pub lowest-finds : (holds : ℕ → Bool) (n : ℕ) → Finds (lowestPlace holds n) (LowestBelow holds n)
-lowest-finds holds n = finds-below _ n _ (lowest-place holds n) (lowest-there holds n) (lowest-back holds n)
 
 pub lowest-finds-from-one : (holds : ℕ → Bool) (n : ℕ) → Finds (lowestFromOne holds n) (FromOne (LowestBelow holds n))
 lowest-finds-from-one holds n =

@@ -85,10 +85,7 @@ zeroIf b = cond b (some 0) none
 abbrev pub placeBelow : ℕ → ℕ → ℕ → Option ℕ
 placeBelow k n place = cond (ltb k n) (some place) none
 
--- the lowest number below n at which the test holds, and the same counted from 1
-abbrev pub lowestPlace : (ℕ → Bool) → ℕ → Option ℕ
-lowestPlace holds n = placeBelow (lowest holds n) n (lowest holds n)
-
+-- the lowest number below n at which the test holds, counted from 1
 abbrev pub lowestFromOne : (ℕ → Bool) → ℕ → Option ℕ
 lowestFromOne holds n = placeBelow (lowest holds n) n (lowest holds n + 1)
 

@@ -12,6 +12,7 @@ use Rattle.base.proofs.Refusals.{none-missed, missed-no}
 use Rattle.block.specs.Block.{block}
 use Rattle.bundle.specs.Layout.{longestBundle, lengthWrong, blocks, recordsOf, firstWrong, blocksFor, badCheck, badBeside, badRecord}
 use Rattle.bundle.specs.Rows.{LengthWrong, readerRows}
+use Rattle.bundle.proofs.Each.{none-each, missed-each}
 use Rattle.bundle.proofs.RecordRows.{clear-records, records-clear}
 
 pub record Passed (bytes : List ℕ) : Type 0 where
@@ -37,7 +38,7 @@ module _ (bytes : List ℕ) where
   clear-passed (one, (two, (three, (four, (five, records))))) =
       record {
         right-length = not-true-false _ (λ h. one (0, (refl, length-tells (length bytes) .0 h)));
-        right-checks = none-missed _ _ (λ k a. two (k, a));
+        right-checks = none-each _ _ (λ p a. two (p, a));
         right-first = not-true-false _ (λ h. three (0, (refl, h)));
         right-count = fits (λ n. four (0, (refl, n)));
         right-beside = none-missed _ _ (λ k a. five (_, (k, refl, a)));
@@ -48,7 +49,7 @@ module _ (bytes : List ℕ) where
   passed-clear p = (
     λ (_, (_, w)). clash-flag (length-tells (length bytes) .1 w) (p .right-length),
     (
-      λ (k, a). missed-no _ _ k (p .right-checks) a,
+      λ (k, a). missed-each _ _ k (p .right-checks) a,
       (
         λ (_, (_, h)). clash-flag h (p .right-first),
         (

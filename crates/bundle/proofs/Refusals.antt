@@ -9,9 +9,9 @@ use native.Mathlib.Omega.{arith}
 use lib.ListN.{length}
 use lib.Dec.{eqb, ltb}
 use Rattle.base.specs.Refusals.{OnePlace, FromOne, AllOnePlace, AllNumbered, Due, Clear, Refusal, given, clear, refused, passed, first}
-use Rattle.base.specs.Refusals.{test, zeroIf, lowestPlace, lowestFromOne}
+use Rattle.base.specs.Refusals.{test, zeroIf, lowestFromOne}
 use Rattle.base.proofs.Flags.{or-tells-three, eq-tells, lt-tells, not-tells, flag-tells}
-use Rattle.base.proofs.Refusals.{zero-place, lowest-place, from-one-place, zero-finds, lowest-finds, lowest-finds-from-one}
+use Rattle.base.proofs.Refusals.{zero-place, lowest-place, from-one-place, zero-finds, lowest-finds-from-one}
 use Rattle.base.proofs.Refusals.{Told, due, none-due, told-more, judged-same, judged-exactly, judged-clear, judged-given, judged-refused}
 use Rattle.bundle.specs.declared.read.Sizes.{Sizes}
 use Rattle.bundle.specs.declared.read.Reading.{Reading}
@@ -20,6 +20,8 @@ use Rattle.block.specs.Block.{block}
 use Rattle.bundle.specs.Layout.{longestBundle, sizesIn, lengthWrong, blocks, recordsOf, firstWrong, blocksFor, badCheck, badBeside}
 use Rattle.bundle.specs.Rows.{MistakeAt, recordRows, readerRows, numberOf, placeOf, Reads, Accepts}
 use Rattle.bundle.specs.Reading.{recordTests, besideTests, countTests, firstTests, checkTests, readerTests, readBy, readOf, readingFor}
+use Rattle.bundle.specs.Each.{eachPlace}
+use Rattle.bundle.proofs.Each.{each-place, each-finds}
 use Rattle.bundle.proofs.RecordRows.{mistake-place, records-told}
 
 module _ (bytes : List ℕ) where
@@ -31,7 +33,7 @@ module _ (bytes : List ℕ) where
 
   pub reader-places : AllOnePlace (readerRows bytes)
   reader-places =
-      (zero-place _, (lowest-place _ _, (zero-place _, (zero-place _, (from-one-place _ (lowest-place _ _), record-places)))))
+      (zero-place _, (each-place _ _, (zero-place _, (zero-place _, (from-one-place _ (lowest-place _ _), record-places)))))
 
   record-numbers : AllNumbered (recordRows bytes)
   record-numbers = (omega arith, (omega arith, (omega arith, (omega arith, (omega arith, tt)))))
@@ -45,7 +47,7 @@ module _ (bytes : List ℕ) where
   tests-told =
       told-more (test 1 (zeroIf (lengthWrong (length bytes)))) (checkTests bytes) _ _ refl
       (zero-finds _ (or-tells-three _ _ _ (eq-tells (length bytes) 0) (lt-tells longestBundle (length bytes)) (not-tells _ (eq-tells (length bytes % 512) 0))))
-      (λ _. told-more (test 2 (lowestPlace (badCheck bytes) (blocks bytes))) (firstTests bytes) _ _ refl (lowest-finds _ _)
+      (λ _. told-more (test 2 (eachPlace (badCheck bytes) (blocks bytes))) (firstTests bytes) _ _ refl (each-finds _ _)
       (λ _. told-more (test 3 (zeroIf (firstWrong (block bytes 0)))) (countTests bytes) _ _ refl (zero-finds _ (flag-tells _))
       (λ _. told-more (test 4 (zeroIf (not (eqb (blocks bytes) (blocksFor (recordsOf bytes)))))) (besideTests bytes) _ _ refl
       (zero-finds _ (not-tells _ (eq-tells _ _)))

@@ -7,6 +7,7 @@ use lib.ListN.{length, take}
 use lib.Dec.{eqb, ltb}
 use native.Mathlib.Omega.{arith}
 use borrow.Author.Tests.{lt-ltb, le-ltb, eq-eqb, ne-eqb, eqb-true, eqb-false, ltb-false, not-false}
+use Rattle.rt0.specs.Word.{bitsBelow}
 use Rattle.base.specs.Lowest.{lowest}
 use Rattle.base.proofs.Flags.{or-false}
 use Rattle.block.specs.Block.{block}
@@ -69,14 +70,14 @@ module _ (bytes : List ℕ) where
   unfolding readBy firstTests
   first-passed h = rw h
 
-  pub check-refused : (k : ℕ) → k ≡ lowest (badCheck bytes) (blocks bytes) → k < blocks bytes → Refused 2 k ≡ readBy bytes (checkTests bytes)
+  pub check-refused : (bad : ℕ) → bad ≡ bitsBelow (badCheck bytes) (blocks bytes) → 0 < bad → Refused 2 bad ≡ readBy bytes (checkTests bytes)
   unfolding readBy checkTests
-  check-refused k l h = rw (← l, lt-ltb k (blocks bytes) h)
+  check-refused bad e h = rw (← e, lt-ltb 0 bad h)
 
-  pub check-passed : (k : ℕ) → k ≡ lowest (badCheck bytes) (blocks bytes) → blocks bytes ≤ k
+  pub check-passed : (bad : ℕ) → bad ≡ bitsBelow (badCheck bytes) (blocks bytes) → bad ≡ 0
       → readBy bytes (firstTests bytes) ≡ readBy bytes (checkTests bytes)
   unfolding readBy checkTests
-  check-passed k l h = rw (← l, le-ltb k (blocks bytes) h)
+  check-passed bad e h = rw (← e, h)
 
   pub length-refused : lengthWrong (length bytes) ≡ true → Refused 1 0 ≡ readOf bytes
   unfolding readBy readerTests

@@ -4,10 +4,11 @@ use mathlib.Core.Bool.{not}
 use mathlib.Core.List.{List, [], _∷_}
 use lib.ListN.{length}
 use lib.Dec.{eqb}
-use Rattle.base.specs.Refusals.{Refusal, given, clear, Test, test, zeroIf, lowestPlace, lowestFromOne, first}
+use Rattle.base.specs.Refusals.{Refusal, given, clear, Test, test, zeroIf, lowestFromOne, first}
 use Rattle.base.specs.Lowest.{lowest}
 use Rattle.block.specs.Block.{block}
 use Rattle.records.specs.Mistake.{mistakeKind, kindNumber}
+use Rattle.bundle.specs.Each.{eachPlace}
 use Rattle.bundle.specs.declared.read.Reading.{Reading}
 use Rattle.bundle.specs.declared.read.Reading.the-variants.{Accepted, Refused}
 use Rattle.bundle.specs.Layout.{lengthWrong, blocks, entitiesOf, namesOf, recordsOf, recordBytes, sizesIn, firstWrong, blocksFor, badCheck, badBeside, badRecord}
@@ -35,7 +36,7 @@ firstTests bytes = test 3 (zeroIf (firstWrong (block bytes 0))) ∷ countTests b
 
 -- the checks of all blocks
 unfoldable pub checkTests : List ℕ → List Test
-checkTests bytes = test 2 (lowestPlace (badCheck bytes) (blocks bytes)) ∷ firstTests bytes
+checkTests bytes = test 2 (eachPlace (badCheck bytes) (blocks bytes)) ∷ firstTests bytes
 
 -- all tests
 unfoldable pub readerTests : List ℕ → List Test

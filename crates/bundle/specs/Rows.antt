@@ -13,6 +13,7 @@ use Rattle.bundle.specs.declared.read.Sizes.{Sizes}
 use Rattle.bundle.specs.declared.read.Reading.{Reading}
 use Rattle.bundle.specs.declared.read.Reading.the-variants.{Accepted, Refused}
 use Rattle.records.specs.Mistake.{mistakeRows}
+use Rattle.bundle.specs.Each.{EachBelow}
 use Rattle.bundle.specs.Layout.{longestBundle, blocks, entitiesOf, namesOf, recordsOf, recordBytes, sizesIn, firstWrong, blocksFor, badCheck, badBeside, badRecord}
 
 -- length is 0, above 3,584 or no multiple of 512
@@ -37,8 +38,8 @@ recordRows bytes =
 abbrev pub readerRows : List ℕ → List Row
 readerRows bytes =
     row 1 (AtZero (LengthWrong (length bytes)))
-    -- some block's check differs; the lowest such block
-    ∷ row 2 (LowestBelow (badCheck bytes) (blocks bytes))
+    -- some block's check differs; bit k of the place is 1 exactly if that of block k does, for all blocks that the length gives
+    ∷ row 2 (EachBelow (badCheck bytes) (blocks bytes))
     -- block 0 breaks its layout
     ∷ row 3 (AtZero (firstWrong (block bytes 0) ≡ true))
     -- the number of blocks does not fit N

@@ -2,8 +2,8 @@
 ghost use mathlib.Core.Path.{_≡_};
 ghost use Prim.Native.Nat.{_+_, _*_, _≤_};
 ghost use lib.ListN.{length};
-ghost use Rattle.base.specs.Lowest.{lowest};
 ghost use Rattle.bundle.specs.Layout.{badCheck};
+ghost use Rattle.rt0.specs.Word.{bitsBelow};
 use block::Block;
 use block::check_differs;
 
@@ -17,17 +17,18 @@ fn bad_check(bundle: &[u8], k: usize) -> bool
     check_differs(&bundle[start..end])
 }
 
-// The lowest block of a bundle whose check differs, or the number of blocks.
-pub(crate) fn lowest_bad_check(bundle: &[u8], blocks: usize) -> usize
-    requires { ⌜ length (now bundle) ≡ 512 * blocks ⌝ }
-    ensures { λ r. ⌜ r ≡ lowest (badCheck (now (bundle .entry))) blocks ⌝ }
+// The blocks of a bundle whose checks differ: bit k for block k, none where all are right.
+pub(crate) fn bad_checks(bundle: &[u8], blocks: usize) -> u16
+    requires { ⌜ (length (now bundle) ≡ 512 * blocks) × (blocks ≤ 7) ⌝ }
+    ensures { λ r. ⌜ r ≡ bitsBelow (badCheck (now (bundle .entry))) blocks ⌝ }
 {
+    let mut word: u16 = 0;
     let mut k: usize = 0;
     while k < blocks {
         if bad_check(bundle, k) {
-            return k;
+            word = word | (1u16 << k);
         }
         k += 1;
     }
-    k
+    word
 }

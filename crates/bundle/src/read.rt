@@ -5,7 +5,7 @@ ghost use lib.ListN.{length};
 ghost use Rattle.bundle.specs.Layout.{recordsOf, blocksFor, blocks as blocksOf, sizesIn};
 ghost use Rattle.bundle.specs.Rows.{Reads};
 ghost use Rattle.bundle.specs.Reading.{readBy, recordTests, besideTests, countTests, firstTests};
-use crate::checks::lowest_bad_check;
+use crate::checks::bad_checks;
 use crate::layout::first_wrong;
 use crate::layout::lowest_bad_beside;
 use crate::stored::lowest_bad_record;
@@ -113,11 +113,11 @@ pub fn read(bundle: &[u8]) -> Reading
         };
     }
     let blocks = size / Block::SIZE;
-    let k = lowest_bad_check(bundle, blocks);
-    if k < blocks {
+    let bad = bad_checks(bundle, blocks);
+    if bad != 0 {
         return Reading::Refused {
             number: 2,
-            place: k as u16,
+            place: bad,
         };
     }
     read_first(bundle, blocks)

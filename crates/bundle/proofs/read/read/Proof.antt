@@ -17,17 +17,13 @@ returns c =
     let bytes = now (c .before .before .args .bundle) in
     reads-as bytes _ (length-refused bytes (c .if1 .taken))
 
-lowest-bad-check-requires : tie.Need-lowest-bad-check-requires
-lowest-bad-check-requires c κs = omega (arith, length-right (length (now (c .before .before .args .bundle))) (c .if1 .left))
-
-cast-t12 : tie.Need-cast-t12
-cast-t12 c =
-    omega (arith, length-right (length (now (c .before .before .before .before .args .bundle))) (c .before .before .if1 .left))
+bad-checks-requires : tie.Need-bad-checks-requires
+bad-checks-requires c κs = omega (arith, length-right (length (now (c .before .before .args .bundle))) (c .if1 .left))
 
 returns-2 : tie.Need-returns-2
 returns-2 c =
     let bytes = now (c .before .before .before .before .args .bundle) in
-    reads-as bytes _ (check-refused bytes _ (c .before .lowest-bad-check .ensures) (c .if2 .taken) ∙ length-passed bytes (c .before .before .if1 .left))
+    reads-as bytes _ (check-refused bytes _ (c .before .bad-checks .ensures) (omega (arith, c .if2 .taken)) ∙ length-passed bytes (c .before .before .if1 .left))
 
 read-first-requires : tie.Need-read-first-requires
 read-first-requires c κs =
@@ -37,7 +33,7 @@ returns-3 : tie.Need-returns-3
 returns-3 c =
     let bytes = now (c .before .before .before .before .before .args .bundle) in
     reads-as bytes _
-    (c .read-first .ensures ∙ check-passed bytes _ (c .before .before .lowest-bad-check .ensures) (c .before .if2 .left)
+    (c .read-first .ensures ∙ check-passed bytes _ (c .before .before .bad-checks .ensures) (c .before .if2 .left)
     ∙ length-passed bytes (c .before .before .before .if1 .left))
 
 pub read-spec : {M : Type 1} → statement M
@@ -46,8 +42,7 @@ read-spec =
     (tie.spec
     mul-if1
     returns
-    lowest-bad-check-requires
-    cast-t12
+    bad-checks-requires
     returns-2
     read-first-requires
     returns-3)
