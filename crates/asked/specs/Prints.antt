@@ -25,17 +25,17 @@ askRows input = readerRows (bundleOf input) ++ (questionRow (bundleOf input) (qu
 abbrev pub AnswersIn : Holding → Question → Verdict → Type 0
 AnswersIn h q word = Answers (h .entities) (h .names) (h .isOpen) (h .held) (roleAsked q) (q .person) word
 
--- the line of RT0's answer, with the number of rounds over the credentials of the bundle
-pub record AnsweredLine (input shown : List ℕ) : Type 0 where
+-- the line of RT0's answer to a question that is asked of a holding, with the number of rounds over its credentials
+pub record AnsweredLine (h : Holding) (q : Question) (shown : List ℕ) : Type 0 where
   pub word : Verdict
   pub rounds : ℕ
-  pub answers : AnswersIn (holdingIn (bundleOf input)) (questionOf input) word
-  pub counted : Rounds (holdingIn (bundleOf input) .held) rounds
+  pub answers : AnswersIn h q word
+  pub counted : Rounds (h .held) rounds
   pub line : shown ≡ answerLine word rounds
 
 -- what may be printed for an input
 abbrev pub Prints : List ℕ → List ℕ → Type 0
-Prints input = LineBy (askRows input) (AnsweredLine input)
+Prints input = LineBy (askRows input) (AnsweredLine (holdingIn (bundleOf input)) (questionOf input))
 
 -- the message where standard input cannot be read
 abbrev pub unreadable : List ℕ
