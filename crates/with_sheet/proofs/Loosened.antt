@@ -1,16 +1,15 @@
 -- The word of the names with code 1 or 2 opens, of an accepted bundle, exactly the roles that the sheet leaves open.
-use Prim.Native.Nat.{ℕ, zero, suc, _+_, _*_, _-_, _%_, _^_, _<_, _≤_}
+use Prim.Native.Nat.{ℕ, zero, suc, _+_, _*_, _%_, _^_, _<_}
 use native.Mathlib.Numerals.{add-one, sub-one}
 use native.Mathlib.Omega.{arith}
-use mathlib.Core.Path.{_≡_, refl, sym, _∙_}
+use mathlib.Core.Path.{_≡_, refl}
 use mathlib.Core.Bool.{true, false, _||_}
 use mathlib.Core.List.{List}
 use lib.Bits.{bitOr}
 use lib.Dec.{eqb}
 use Rattle.rt0.specs.Credential.{_·_, IsName}
-use Rattle.rt0.specs.Word.{bitsBelow}
 use Rattle.rt0.proofs.BitsBelow.{bits-told, bits-one, bits-other}
-use Rattle.bundle.specs.Layout.{namesOf, sizesIn}
+use Rattle.bundle.specs.Layout.{sizesIn}
 use Rattle.bundle.specs.Rows.{Accepts}
 use Rattle.bundle.proofs.Accepted.{accepted-contents}
 use Rattle.sheet.specs.Sheet.{codeOf}

@@ -7,7 +7,7 @@ use mathlib.Core.Bool.{Bool, true, false, _&&_, _||_}
 use mathlib.Core.Logic.{_↔_, _⊎_, inl, inr}
 use mathlib.Core.List.{List}
 use Rattle.rt0.specs.Credential.{Role, _·_, Credential, head, IsName}
-use Rattle.rt0.specs.Completion.{Open, isAbsent, someAbsent, Completable, Verdict, YES, NO, UNSURE, Answers}
+use Rattle.rt0.specs.Completion.{Open, isAbsent, someAbsent, Verdict, YES, NO, UNSURE, Answers}
 use Rattle.rt0.proofs.Tables.{rounds-unique}
 use Rattle.rt0.proofs.Possible.{SameWithin, answer-unique}
 use Rattle.base.proofs.Flags.{and-left, and-right}

@@ -1,6 +1,6 @@
 -- Only the roles of a bundle count: where two tests of open roles agree on these, what is promised by one is promised by the other.
 use Prim.Native.Nat.{ℕ}
-use mathlib.Core.Path.{refl, sym}
+use mathlib.Core.Path.{sym}
 use mathlib.Core.List.{List, [], _∷_}
 use Rattle.rt0.specs.Membership.{Assignment}
 use Rattle.rt0.specs.Completion.{Open, Completable}

@@ -1,11 +1,7 @@
 // The search and the tables of a bundle with a sheet of storage types. They are those without a sheet, where further roles are open; a wrong
 // sheet is refused after the bundle's own refusals.
 ghost use mathlib.Core.Path.{_≡_};
-ghost use mathlib.Core.Logic.{_⊎_};
-ghost use lib.ListN.{length};
-ghost use Rattle.bundle.specs.Question.{question as ask};
 ghost use Rattle.answers.specs.Answer.{outcomeOf};
-ghost use Rattle.words.specs.Sizes.{mostEntities};
 ghost use Rattle.tables.specs.Promise.{tables};
 ghost use Rattle.search.specs.Promise.{lent};
 ghost use Rattle.with_sheet.specs.Open.{looseWord};
