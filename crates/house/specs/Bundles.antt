@@ -1,4 +1,4 @@
--- The bundles of the small house, byte by byte: block 0 from E, R, N and the marks, the record block from the paper's record lines, with
+-- The bundles of the small house and its sheet, byte by byte: block 0 from E, R, N and the marks, the record block from the paper's record lines, with
 -- zeros filled in, and the two bytes of each block's check as numbers. That these are the right ones is part of what is proved.
 use Prim.Native.Nat.{ℕ, _-_}
 use mathlib.Core.List.{List, [], _∷_, _++_}
@@ -49,6 +49,9 @@ guildAbsent = whole (1 ∷ 1 ∷ 1 ∷ 1 ∷ 2 ∷ 1 ∷ []) 110
 abbrev pub uplandAbsent : List ℕ
 uplandAbsent = whole (1 ∷ 1 ∷ 2 ∷ 1 ∷ 1 ∷ 1 ∷ []) 108
 
+abbrev pub tomasAbsent : List ℕ
+tomasAbsent = whole (1 ∷ 1 ∷ 1 ∷ 1 ∷ 1 ∷ 2 ∷ []) 111
+
 abbrev pub bothAbsent : List ℕ
 bothAbsent = whole (1 ∷ 1 ∷ 2 ∷ 1 ∷ 2 ∷ 1 ∷ []) 117
 
@@ -68,3 +71,11 @@ emptyAbsent = firstBlock 1 1 0 (2 ∷ []) 17 0
 -- one entity, one name, and one record, by which 1.1 is contained in itself
 abbrev pub inItself : List ℕ
 inItself = firstBlock 1 1 1 (1 ∷ []) 16 0 ++ recordBlock ((2 ∷ 1 ∷ 1 ∷ 1 ∷ 1 ∷ []) ∷ []) 12 4
+
+-- a sheet: the codes of the names, zeros up to byte 507, 100, the number of names, and the check
+unfoldable pub sheetBlock : List ℕ → ℕ → ℕ → List ℕ
+sheetBlock codes low high = filled 508 codes ++ (100 ∷ length codes ∷ low ∷ high ∷ [])
+
+-- student, name 4, has code 2, and the other names have code 3
+abbrev pub studentLoose : List ℕ
+studentLoose = sheetBlock (3 ∷ 3 ∷ 3 ∷ 2 ∷ 3 ∷ 3 ∷ []) 4 211

@@ -6,9 +6,9 @@ use lib.Dec.{eqb}
 use borrow.Author.Tests.{eqb-true}
 use Rattle.rt0.specs.Credential.{_∈_}
 use Rattle.rt0.specs.Word.{linkWord, meetWord, giveWord, useWord, useWords, roundWords, noneWords, openWords}
-use Rattle.rt0.specs.Completion.{Open, openBy, Verdict, YES, NO, UNSURE, Answers}
+use Rattle.rt0.specs.Completion.{someAbsent, Verdict, YES, NO, UNSURE, Answers}
 use Rattle.rt0.specs.Table.{Rounds}
-use Rattle.rt0.specs.House.{Case, RightCase, cases, presentBut}
+use Rattle.rt0.specs.House.{Case, RightCase, cases, presentBut, among, opens}
 use Rattle.rt0.proofs.Tests.{both-true, every, every-true, sameWords}
 use Rattle.rt0.proofs.Settle.{settleWords}
 use Rattle.rt0.proofs.Decide.{fromOneTo, validRole, valid, entity-from, role-from, all-valid-from, Answer, answerWords, answer-words}
@@ -34,9 +34,6 @@ same-verdict NO UNSURE h = absurd (false≢true h)
 same-verdict UNSURE YES h = absurd (false≢true h)
 same-verdict UNSURE NO h = absurd (false≢true h)
 same-verdict UNSURE UNSURE h = refl
-
-abbrev opens : Case → Open
-opens k = openBy (presentBut (k .absent))
 
 -- a case makes sense: its credentials, the role and the one asked about are within its entities and names
 sound : Case → Bool
@@ -80,7 +77,7 @@ pass-right k h =
     (rw (← verdict-same) (right .0), rw (← rounds-same) (right .1))
 
 all-pass : every passes cases ≡ true
-unfolding passes sound answer every cases presentBut answerWords settleWords sameWords noneWords openWords
+unfolding passes sound answer every cases presentBut among someAbsent answerWords settleWords sameWords noneWords openWords
     roundWords useWords useWord giveWord linkWord meetWord
 all-pass = refl
 

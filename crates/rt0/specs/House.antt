@@ -1,12 +1,13 @@
--- The small house: the papers' example, with the ten cases P1 to P10 that every maker of answers has to get right.
+-- The small house: the papers' example, with the ten cases P1 to P10 that every maker of answers has to get right, and the case of a present
+-- shelf that does not complete a role.
 use Prim.Native.Nat.{ℕ}
-use mathlib.Core.Bool.{Bool, true, false}
+use mathlib.Core.Bool.{Bool, true, false, _||_}
 use mathlib.Core.List.{List, [], _∷_, _++_}
 use lib.ListN.{take, drop}
 use lib.Dec.{eqb}
 use Rattle.rt0.specs.Credential.{Role, _·_, entity, role, link, intersection, Credential, _⟵_}
 use Rattle.rt0.specs.Table.{Rounds}
-use Rattle.rt0.specs.Completion.{Shelf, Present, Absent, openBy, Verdict, YES, NO, UNSURE, Answers}
+use Rattle.rt0.specs.Completion.{Shelf, Present, Absent, Open, openWith, Verdict, YES, NO, UNSURE, Answers}
 
 -- entities
 abbrev pub Archive : ℕ
@@ -71,13 +72,19 @@ unfoldable pub presentBut : List ℕ → ℕ → Shelf
 presentBut [] A = Present
 presentBut (B ∷ Bs) A = shelfIf (eqb A B) (presentBut Bs A)
 
--- these credentials held over so many entities and names, the shelves of the entities listed as absent being absent:
--- the verdict on whether the one asked about is in the role, and the number of rounds
+-- a name is one of those listed
+unfoldable pub among : List ℕ → ℕ → Bool
+among [] r = false
+among (s ∷ ss) r = eqb r s || among ss r
+
+-- these credentials held over so many entities and names, the shelves of the entities listed as absent being absent, and any shelf may keep
+-- the credentials of the names listed as loose: the verdict on whether the one asked about is in the role, and the number of rounds
 pub record Case : Type 0 where
   pub entities : ℕ
   pub names : ℕ
   pub held : List Credential
   pub absent : List ℕ
+  pub loose : List ℕ
   pub asked : ℕ
   pub into : Role
   pub verdict : Verdict
@@ -86,13 +93,28 @@ pub record Case : Type 0 where
 -- in the house it is always asked who signs for the Archive
 abbrev pub inHouse : List Credential → List ℕ → ℕ → Verdict → ℕ → Case
 inHouse cs away D v n =
-    record { entities = 6; names = 6; held = cs; absent = away; asked = D; into = Archive · signer; verdict = v; rounds = n }
+    record { entities = 6; names = 6; held = cs; absent = away; loose = []; asked = D; into = Archive · signer; verdict = v; rounds = n }
 
 -- one entity and one name: is 1 in 1.1?
 abbrev pub ofOne : List Credential → List ℕ → Verdict → ℕ → Case
-ofOne cs away v n = record { entities = 1; names = 1; held = cs; absent = away; asked = 1; into = 1 · 1; verdict = v; rounds = n }
+ofOne cs away v n = record { entities = 1; names = 1; held = cs; absent = away; loose = []; asked = 1; into = 1 · 1; verdict = v; rounds = n }
 
--- P1 to P10
+-- only Tomas's shelf is absent: is he a reader of the Archive, these names being loose?
+abbrev pub readerTomas : List ℕ → Verdict → Case
+readerTomas names v =
+    record {
+      entities = 6;
+      names = 6;
+      held = house;
+      absent = Tomas ∷ [];
+      loose = names;
+      asked = Tomas;
+      into = Archive · reader;
+      verdict = v;
+      rounds = 4;
+    }
+
+-- P1 to P10; and Tomas, who may be a student by a credential that his own shelf keeps where students' credentials may stand on any
 unfoldable pub cases : List Case
 unfolding house houseWithout5
 cases =
@@ -106,10 +128,16 @@ cases =
     ∷ ofOne [] [] NO 0
     ∷ ofOne [] (1 ∷ []) UNSURE 0
     ∷ ofOne ((1 · 1 ⟵ role (1 · 1)) ∷ []) [] NO 0
+    ∷ readerTomas [] NO
+    ∷ readerTomas (student ∷ []) UNSURE
     ∷ []
+
+-- the roles that are open in a case
+abbrev pub opens : Case → Open
+opens k = openWith (among (k .loose)) (presentBut (k .absent)) (k .entities)
 
 -- the verdict and the number of rounds that a case states are right
 abbrev pub RightCase : Case → Type 0
 RightCase k =
-    Answers (k .entities) (k .names) (openBy (presentBut (k .absent))) (k .held) (k .into) (k .asked) (k .verdict)
+    Answers (k .entities) (k .names) (opens k) (k .held) (k .into) (k .asked) (k .verdict)
     × Rounds (k .held) (k .rounds)
