@@ -1,5 +1,5 @@
--- The line of an answer, whatever table of refusals it is judged by and whatever the question is asked of: a refusal that is due, or the word and
--- the rounds, is what may be printed; and there is one line.
+-- The line of an answer, whatever table of refusals it is judged by and whatever the question is asked of: there is one for the word and the
+-- rounds, and that of a refusal that is due, or else of the word and the rounds, is what may be printed.
 use Prim.Native.Nat.{ℕ, zero, suc}
 use mathlib.Core.Path.{_≡_, refl, ap, ap₂, sym, subst, _∙_}
 use mathlib.Core.List.{List, _++_}
@@ -42,6 +42,14 @@ word-line NO rounds lines = refl
 word-line UNSURE rounds lines = refl
 
 module _ (h : Holding) (q : Question) where
+  -- RT0 gives one word, and there is one number of rounds
+  pub answered-once : (one two : List ℕ) → AnsweredLine h q one → AnsweredLine h q two → one ≡ two
+  answered-once one two a b =
+      let word : a .word ≡ b .word =
+      answer-unique (h .entities) (h .names) (h .isOpen) (h .held) (roleAsked q) (q .person) _ _ (a .answers) (b .answers) in
+      let rounds : a .rounds ≡ b .rounds = rounds-unique (h .held) _ _ (a .counted) (b .counted) in
+      a .line ∙ ap₂ answerLine word rounds ∙ sym (b .line)
+
   -- the program's rows, and those behind them that never apply
   module _ (rows rest : List Row) (none : Clear rest) (answer : Answer) where
     pub prints-refused : (number place : ℕ) → Due (rows ++ rest) number place → outcomeOf answer ≡ refusal number place
@@ -61,11 +69,3 @@ module _ (h : Holding) (q : Question) where
           counted = counted;
           line = line-of answer ∙ ap outcomeLine outcome ∙ word-line word rounds lines;
         })
-
-  -- RT0 gives one word, and there is one number of rounds
-  pub answered-once : (one two : List ℕ) → AnsweredLine h q one → AnsweredLine h q two → one ≡ two
-  answered-once one two a b =
-      let word : a .word ≡ b .word =
-      answer-unique (h .entities) (h .names) (h .isOpen) (h .held) (roleAsked q) (q .person) _ _ (a .answers) (b .answers) in
-      let rounds : a .rounds ≡ b .rounds = rounds-unique (h .held) _ _ (a .counted) (b .counted) in
-      a .line ∙ ap₂ answerLine word rounds ∙ sym (b .line)
