@@ -90,7 +90,7 @@ pub record Case : Type 0 where
   pub verdict : Verdict
   pub rounds : ℕ
 
--- in the house it is always asked who signs for the Archive
+-- P1 to P7 ask who signs for the Archive
 abbrev pub inHouse : List Credential → List ℕ → ℕ → Verdict → ℕ → Case
 inHouse cs away D v n =
     record { entities = 6; names = 6; held = cs; absent = away; loose = []; asked = D; into = Archive · signer; verdict = v; rounds = n }
