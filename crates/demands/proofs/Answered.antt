@@ -4,19 +4,17 @@
 use Prim.Native.Nat.{ℕ, _*_, _-_, _≤_, _<_}
 use native.Mathlib.Decide.{decLt}
 use native.Mathlib.Omega.{arith}
-use mathlib.Core.Path.{_≡_, refl, sym, ap, _∙_}
-use mathlib.Core.Bool.{cond}
+use mathlib.Core.Path.{_≡_, refl, ap}
 use mathlib.Core.Logic.{_↔_, inr, ⊎-elim}
 use mathlib.Core.List.{List, [], _∷_, _++_, List·Memᴰ·append-cases}
 use lib.ListN.{length, take}
-use lib.Dec.{eqb}
 use Rattle.rt0.specs.Credential.{_·_, IsEntity, IsName, ValidRole}
 use Rattle.rt0.specs.Membership.{Member}
 use Rattle.rt0.specs.Table.{Rounds}
 use Rattle.rt0.specs.Completion.{No, Unsure, Verdict, YES, NO, UNSURE, Answers}
 use Rattle.rt0.specs.Word.{bit, wordAt}
 use Rattle.rt0.proofs.Least.{member-within}
-use Rattle.rt0.proofs.Possible.{answer-unique, all-present}
+use Rattle.rt0.proofs.Possible.{all-present}
 use Rattle.base.specs.Refusals.{Row, Clear}
 use Rattle.base.proofs.Refusals.{clear-first, clear-later, judged-given}
 use Rattle.bundle.specs.declared.question.Question.{Question}
@@ -36,18 +34,7 @@ use Rattle.words.specs.Sizes.{mostEntities, width, slipBytes}
 use Rattle.search.specs.Promise.{Lent, lentRow, searchRows, AnsweredWith, Promise}
 use Rattle.search.specs.Written.{Written}
 use Rattle.search.proofs.Judging.{search-places, search-numbers}
-
--- the word that a number stands for
-abbrev wordOf : ℕ → Verdict
-wordOf n = cond (eqb n 1) YES (cond (eqb n 2) NO UNSURE)
-
-word-back : (v : Verdict) → wordOf (verdictNumber v) ≡ v
-word-back YES = refl
-word-back NO = refl
-word-back UNSURE = refl
-
-same-word : (v w : Verdict) → verdictNumber v ≡ verdictNumber w → v ≡ w
-same-word v w e = sym (word-back v) ∙ ap wordOf e ∙ word-back w
+use Rattle.demands.proofs.Words.{word-is, word-exactly}
 
 -- what is not shorter is long enough
 not-shorter : (n m : ℕ) → (n < m → ⊥) → m ≤ n
@@ -80,28 +67,19 @@ module _ (bytes : List ℕ) (q : Question) (before after : Lent) (o : Outcome) (
   room : slipBytes ≤ length (before .slip)
   room = not-shorter _ _ (λ l. clear-later (readerRows bytes) own (given .0) .1 .0 (0, (refl, inr (inr l))))
 
-  verdict-word : o .verdict ≡ verdictNumber (answer .word)
-  verdict-word = ap (λ (x : Outcome). x .verdict) (answer .outcome)
-
-  word-is : (word : Verdict) → o .verdict ≡ verdictNumber word → answer .word ≡ word
-  word-is word e = same-word (answer .word) word (sym verdict-word ∙ e)
-
   -- the verdict is a word's number exactly if that word is the answer
-  word-exactly : (word : Verdict) → (o .verdict ≡ verdictNumber word)
+  exactly : (word : Verdict) → (o .verdict ≡ verdictNumber word)
       ↔ Answers (entitiesOf bytes) (namesOf bytes) (openOf bytes) (held bytes) (roleAsked q) (q .person) word
-  word-exactly word = (
-    λ e. rw (word-is word e) at (answer .answers),
-    λ a. verdict-word ∙ ap verdictNumber (answer-unique _ _ _ _ _ _ (answer .word) word (answer .answers) a),
-  )
+  exactly = word-exactly answer
 
   pub yes-exactly : (o .verdict ≡ 1) ↔ Member (held bytes) (roleAsked q) (q .person)
-  yes-exactly = word-exactly YES
+  yes-exactly = exactly YES
 
   pub no-exactly : (o .verdict ≡ 2) ↔ No (entitiesOf bytes) (namesOf bytes) (openOf bytes) (held bytes) (roleAsked q) (q .person)
-  no-exactly = word-exactly NO
+  no-exactly = exactly NO
 
   pub unsure-exactly : (o .verdict ≡ 3) ↔ Unsure (entitiesOf bytes) (namesOf bytes) (openOf bytes) (held bytes) (roleAsked q) (q .person)
-  unsure-exactly = word-exactly UNSURE
+  unsure-exactly = exactly UNSURE
 
   -- where every shelf of the bundle is marked present the verdict is never UNSURE
   pub never-unsure : ((A : ℕ) → IsEntity (entitiesOf bytes) A → markOf bytes A ≡ Present) → o .verdict ≡ 3 → ⊥
@@ -114,7 +92,7 @@ module _ (bytes : List ℕ) (q : Question) (before after : Lent) (o : Outcome) (
 
   -- what the slip buffer holds with YES
   written : o .verdict ≡ 1 → Written (bookIn bytes) (roleAsked q) (q .person) (before .slip) (o .lines) (after .slip)
-  written y = rw (word-is YES y) at (answer .slip)
+  written y = rw (word-is answer YES y) at (answer .slip)
 
   pub slip-accepted : o .verdict ≡ 1 → Checks bytes q (take (8 * o .lines) (after .slip)) (Accepted (o .lines))
   slip-accepted y =
