@@ -27,7 +27,7 @@ pub const SHEET_GROUPS: [Group<SheetCase>; 10] = [
     group("small-house", 4, small_house),
     group("wrong-sheets", 6, wrong_sheets),
     group("changed-sheets", 2, changed_sheets),
-    group("damaged-bundles", 9, damaged_bundles),
+    group("damaged-bundles", 14, damaged_bundles),
     group("lent-lengths", 3, lent_lengths),
     group("several-faults", 6, several_faults),
 ];
