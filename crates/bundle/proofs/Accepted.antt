@@ -23,23 +23,26 @@ use Rattle.records.specs.Form.{recordIn, credentialOf}
 use Rattle.records.proofs.ValidRecord.{valid-record, record-is}
 use Rattle.bundle.specs.declared.read.Sizes.{Sizes}
 use Rattle.bundle.specs.declared.access.Mark.the-variants.{Present, Absent, Unmarked}
+use Rattle.bundle.specs.Edition.{mostNames, editionFor}
 use Rattle.bundle.specs.Layout.{entitiesOf, namesOf, recordsOf, blocksFor, recordBytes, badRecord}
 use Rattle.bundle.specs.Rows.{Accepts}
 use Rattle.bundle.specs.Access.{markOf, recordOf}
 use Rattle.bundle.specs.Held.{credentials, held, bookIn, holdingIn}
 use Rattle.bundle.proofs.Stages.{length-right}
 use Rattle.bundle.proofs.Passed.{clear-passed}
-use Rattle.bundle.proofs.FirstBlock.{entities-right, names-right, records-right, mark-right, behind-right}
+use Rattle.bundle.proofs.FirstBlock.{edition-right, entities-right, names-right, records-right, mark-right, behind-right}
 
 -- what an accepted bundle holds
 pub record Contents (bytes : List ℕ) (s : Sizes) : Type 0 where
+  -- byte 0 is the edition of its R, as it is for the writer
+  pub edition : byteAt bytes 0 ≡ editionFor (s .names)
   pub entities : s .entities ≡ byteAt bytes 1
   pub names : s .names ≡ byteAt bytes 2
   pub records : s .records ≡ byteAt bytes 3
   pub some-entity : 1 ≤ s .entities
   pub most-entities : s .entities ≤ 32
   pub some-name : 1 ≤ s .names
-  pub most-names : s .names ≤ 16
+  pub most-names : s .names ≤ mostNames
   pub most-records : s .records ≤ 240
   pub size : length bytes ≡ 512 * blocksFor (s .records)
   -- every shelf up to E has a mark, and no other
@@ -116,6 +119,7 @@ accepted-contents bytes s h =
     let R : s .names ≡ namesOf bytes = cc (h .said) in
     let N : s .records ≡ recordsOf bytes = cc (h .said) in
     record {
+      edition = rw R (edition-right bytes (p .right-first));
       entities = E;
       names = R;
       records = N;

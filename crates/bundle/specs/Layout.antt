@@ -10,6 +10,7 @@ use Rattle.base.specs.Range.{outside}
 use Rattle.base.specs.Lowest.{anyBelow}
 use Rattle.block.specs.Block.{block, checkWrong, blockOf, startOf}
 use Rattle.records.specs.Mistake.{recordWrong}
+use Rattle.bundle.specs.Edition.{mostNames, editionFor}
 use Rattle.bundle.specs.declared.read.Sizes.{Sizes}
 
 -- the bytes of the longest bundle: seven blocks of 512
@@ -37,20 +38,20 @@ recordsOf bytes = byteAt bytes 3
 abbrev pub sizesIn : List ℕ → Sizes
 sizesIn bytes = record { entities = entitiesOf bytes; names = namesOf bytes; records = recordsOf bytes }
 
--- byte i of block 0 is wrong: byte 0 is 1, bytes 1, 2 and 3 are E, R and N, byte 3 + A is the mark of shelf A, 1 or 2, for A
+-- byte i of block 0 is wrong: byte 0 is the edition, bytes 1, 2 and 3 are E, R and N, byte 3 + A is the mark of shelf A, 1 or 2, for A
 -- up to E, and every byte behind the marks is 0
-abbrev pub firstByteWrong : ℕ → ℕ → ℕ → Bool
-firstByteWrong E i b =
-    eqb i 0 && not (eqb b 1)
+abbrev pub firstByteWrong : ℕ → ℕ → ℕ → ℕ → Bool
+firstByteWrong edition E i b =
+    eqb i 0 && not (eqb b edition)
     || eqb i 1 && outside 32 b
-    || eqb i 2 && outside 16 b
+    || eqb i 2 && outside mostNames b
     || eqb i 3 && ltb 240 b
     || (leb 4 i && leb i (3 + E)) && (not (eqb b 1) && not (eqb b 2))
     || (leb 4 i && ltb (3 + E) i) && not (eqb b 0)
 
--- block 0 breaks its layout
+-- block 0 breaks its layout; its edition is the one that its R asks for
 unfoldable pub firstWrong : List ℕ → Bool
-firstWrong first = anyBelow (λ i. firstByteWrong (entitiesOf first) i (byteAt first i)) 510
+firstWrong first = anyBelow (λ i. firstByteWrong (editionFor (namesOf first)) (entitiesOf first) i (byteAt first i)) 510
 
 -- block 0, then one record block for every 40 credentials begun
 abbrev pub blocksFor : ℕ → ℕ

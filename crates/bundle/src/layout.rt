@@ -5,19 +5,21 @@ ghost use lib.ListN.{length};
 ghost use Rattle.bundle.specs.Layout.{firstByteWrong, firstWrong, recordsIn, besideByteWrong, besideWrong, recordsOf, badBeside};
 ghost use Rattle.base.specs.Lowest.{lowest};
 ghost use Rattle.base.specs.Byte.{byteAt};
+use crate::edition::Edition;
+use crate::edition::edition_for;
 use base::byte;
 use base::outside;
 use block::Block;
 
-// Whether byte i of block 0 is wrong.
-fn first_byte_wrong(first: &[u8], i: usize) -> bool
-    ensures { λ r. ⌜ r ≡ firstByteWrong (byteAt (now (first .entry)) 1) i (byteAt (now (first .entry)) i) ⌝ }
+// Whether byte i of block 0 is wrong, where byte 0 should be this edition.
+fn first_byte_wrong(first: &[u8], edition: usize, i: usize) -> bool
+    ensures { λ r. ⌜ r ≡ firstByteWrong edition (byteAt (now (first .entry)) 1) i (byteAt (now (first .entry)) i) ⌝ }
 {
     let entities = byte(first, 1);
     let b = byte(first, i);
-    ((i == 0) & (b != 1))
+    ((i == 0) & (b != edition))
         | ((i == 1) & outside(32, b))
-        | ((i == 2) & outside(16, b))
+        | ((i == 2) & outside(Edition::MOST_NAMES, b))
         | ((i == 3) & (240 < b))
         | (((4 <= i) & (i <= 3 + entities)) & ((b != 1) & (b != 2)))
         | (((4 <= i) & (3 + entities < i)) & (b != 0))
@@ -27,9 +29,10 @@ fn first_byte_wrong(first: &[u8], i: usize) -> bool
 pub fn first_wrong(first: &[u8]) -> bool
     ensures { λ r. ⌜ r ≡ firstWrong (now (first .entry)) ⌝ }
 {
+    let edition = edition_for(byte(first, 2)) as usize;
     let mut i: usize = 0;
     while i < Block::CHECK_PLACE {
-        if first_byte_wrong(first, i) {
+        if first_byte_wrong(first, edition, i) {
             return true;
         }
         i += 1;

@@ -2,39 +2,28 @@
 -- which says the content's marks.
 use Prim.Native.Nat.{ℕ, zero, suc, _+_, _-_, _<_, _≤_}
 use mathlib.Core.Path.{_≡_, refl, sym, _∙_, ap}
-use mathlib.Core.Bool.{false, not, _&&_}
+use mathlib.Core.Bool.{Bool, false, not, _&&_}
 use mathlib.Core.Logic.{_⊎_, inl, inr}
 use mathlib.Core.List.{List}
 use native.Mathlib.Decide.{decLt}
 use native.Mathlib.Omega.{arith}
 use lib.Dec.{eqb}
-use borrow.Author.Tests.{lt-ltb, le-ltb, le-leb, lt-leb, eqb-true, ne-eqb, not-false}
+use borrow.Author.Tests.{lt-ltb, le-ltb, le-leb, lt-leb, ne-eqb, eq-eqb}
 use Rattle.base.specs.Byte.{byteAt}
-use Rattle.base.proofs.Lowest.{Missed, any-false, any-none}
-use Rattle.base.proofs.Flags.{or-false, inside-flag, above-flag}
+use Rattle.base.proofs.Lowest.{Missed, any-none}
+use Rattle.base.proofs.Flags.{inside-flag, above-flag}
 use Rattle.block.specs.Block.{block}
-use Rattle.bundle.specs.Layout.{firstByteWrong, entitiesOf, firstWrong, recordsOf, recordBytes}
+use Rattle.bundle.specs.Edition.{mostNames, editionFor}
+use Rattle.bundle.specs.Layout.{firstByteWrong, entitiesOf, namesOf, firstWrong, recordsOf, recordBytes}
 use Rattle.bundle.specs.Access.{markOf}
 use Rattle.bundle.proofs.Parts.{first-byte}
-use Rattle.bundle.proofs.FirstBlock.{entities-right, mark-right, behind-right}
-use Rattle.content.specs.Content.{Content, mostNames, contentOf, ValidContent, count, markIn}
-use Rattle.content.specs.Encode.{firstByte}
+use Rattle.bundle.proofs.FirstBlock.{edition-right, entities-right, mark-right, behind-right}
+use Rattle.content.specs.Content.{Content, contentOf, ValidContent, count, markIn}
+use Rattle.content.specs.Encode.{editionOf, firstByte}
 use Rattle.content.proofs.Tabulated.{length-tabulate, item-tabulate, item-behind}
 use Rattle.content.proofs.Marks.{RightMarks, right-marks}
 
 module _ (bytes : List ℕ) (h : firstWrong (block bytes 0) ≡ false) where
-  edition-right : byteAt bytes 0 ≡ 1
-  unfolding firstWrong
-  edition-right =
-      let first = block bytes 0 in
-      let wrong : firstByteWrong (entitiesOf first) 0 (byteAt first 0) ≡ false = any-false _ 510 h 0 (omega arith) in
-      let (a, _) = or-false _ _ wrong in
-      let (b, _) = or-false _ _ a in
-      let (c, _) = or-false _ _ b in
-      let (d, _) = or-false _ _ c in
-      let (e, _) = or-false (not (eqb (byteAt first 0) 1)) _ d in
-      sym (first-byte bytes 0 (omega arith)) ∙ eqb-true (byteAt first 0) 1 (not-false (eqb (byteAt first 0) 1) e)
-
   -- the marks of its content are right
   pub content-marks : RightMarks (entitiesOf bytes) (contentOf bytes .marks)
   content-marks =
@@ -50,7 +39,7 @@ module _ (bytes : List ℕ) (h : firstWrong (block bytes 0) ≡ false) where
       other i l (no m) = item-behind (λ i. byteAt bytes (4 + i)) 0 32 i (omega arith)
 
   pub first-bytes : (i : ℕ) → i < 510 → byteAt bytes i ≡ firstByte (contentOf bytes) i
-  first-bytes zero l = edition-right
+  first-bytes zero l = edition-right bytes h
   first-bytes (suc zero) l = refl
   first-bytes (suc (suc zero)) l = refl
   first-bytes (suc (suc (suc zero))) l = sym (length-tabulate (recordBytes bytes) (recordsOf bytes))
@@ -66,8 +55,8 @@ module _ (bytes : List ℕ) (h : firstWrong (block bytes 0) ≡ false) where
           ∙ sym (item-behind (λ i. byteAt bytes (4 + i)) 0 32 i (omega arith))
 
 -- a byte behind N is right where it is a mark up to 3 + E, and 0 behind
-mark-byte : (E i x : ℕ) → 4 ≤ i → (i ≤ 3 + E → (x ≡ 1) ⊎ (x ≡ 2)) → (3 + E < i → x ≡ 0) → firstByteWrong E i x ≡ false
-mark-byte E i x l mark behind = among (decLt (3 + E) i)
+mark-byte : (wanted E i x : ℕ) → 4 ≤ i → (i ≤ 3 + E → (x ≡ 1) ⊎ (x ≡ 2)) → (3 + E < i → x ≡ 0) → firstByteWrong wanted E i x ≡ false
+mark-byte wanted E i x l mark behind = among (decLt (3 + E) i)
   where
     start : (k : ℕ) → k < 4 → eqb i k ≡ false
     start k s = ne-eqb i k (λ e. omega arith)
@@ -76,7 +65,7 @@ mark-byte E i x l mark behind = among (decLt (3 + E) i)
     one (inl e) = rw e
     one (inr e) = rw e
 
-    among : Dec (3 + E < i) → firstByteWrong E i x ≡ false
+    among : Dec (3 + E < i) → firstByteWrong wanted E i x ≡ false
     among (yes k) =
         rw (
           start 0 (omega arith),
@@ -103,23 +92,26 @@ mark-byte E i x l mark behind = among (decLt (3 + E) i)
 
 -- the bytes of a valid content are a right block 0
 module _ (c : Content) (v : ValidContent c) (b : List ℕ) (h : (i : ℕ) → i < 510 → byteAt b i ≡ firstByte c i) where
-  byte-right : (i : ℕ) → i < 510 → firstByteWrong (c .entities) i (firstByte c i) ≡ false
-  byte-right zero l = refl
+  byte-right : (i : ℕ) → i < 510 → firstByteWrong (editionOf c) (c .entities) i (firstByte c i) ≡ false
+  byte-right zero l = rw (eq-eqb (editionOf c) (editionOf c) refl)
   byte-right (suc zero) l = rw (inside-flag 32 (c .entities) (v .some-entity) (v .most-entities))
   byte-right (suc (suc zero)) l = rw (inside-flag mostNames (c .names) (v .some-name) (v .most-names))
   byte-right (suc (suc (suc zero))) l = rw (le-ltb 240 (count c) (v .most-records))
   byte-right (suc (suc (suc (suc i)))) l =
       let marks = right-marks (c .entities) (c .marks) (v .right-marks) in
-      mark-byte (c .entities) (suc (suc (suc (suc i)))) (byteAt (c .marks) i) (omega arith)
+      mark-byte (editionOf c) (c .entities) (suc (suc (suc (suc i)))) (byteAt (c .marks) i) (omega arith)
       (λ m. marks .there i (omega arith) (omega (arith, v .most-entities)))
       (λ m. marks .others i (omega arith))
 
   pub first-right : firstWrong b ≡ false
   unfolding firstWrong
-  first-right = sym (any-none (λ i. firstByteWrong (entitiesOf b) i (byteAt b i)) 510 510 (omega arith) (omega arith) missed)
+  first-right = sym (any-none wrong 510 510 (omega arith) (omega arith) missed)
     where
-      missed : Missed (λ i. firstByteWrong (entitiesOf b) i (byteAt b i)) 510
-      missed i l = rw (h 1 (omega arith), h i l) (byte-right i l)
+      wrong : ℕ → Bool
+      wrong i = firstByteWrong (editionFor (namesOf b)) (entitiesOf b) i (byteAt b i)
+
+      missed : Missed wrong 510
+      missed i l = rw (h 1 (omega arith), h 2 (omega arith), h i l) (byte-right i l)
 
 -- the mark of a shelf of bytes is the content's where the mark bytes are
 module _ (c : Content) (b : List ℕ) (h : (i : ℕ) → i < 32 → byteAt b (4 + i) ≡ byteAt (c .marks) i) where

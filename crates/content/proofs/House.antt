@@ -5,6 +5,7 @@ use mathlib.Core.List.{List, [], _∷_, _++_}
 use lib.ListN.{replicate}
 use Rattle.block.specs.Block.{weighed, checkOf}
 use Rattle.records.specs.Bytes.{twelve}
+use Rattle.bundle.specs.Edition.{editionFor}
 use Rattle.content.specs.Content.{Content, tabulate}
 use Rattle.content.specs.Encode.{firstByte, recordsByte, checkBy}
 
@@ -26,7 +27,7 @@ house =
     }
 
 pub first-check : checkBy (firstByte house) ≡ 101
-unfolding checkBy checkOf weighed tabulate house
+unfolding checkBy checkOf weighed tabulate house editionFor
 first-check = refl
 
 pub records-check : checkBy (recordsByte house 0) ≡ 6884

@@ -12,6 +12,7 @@ use Rattle.base.specs.Lowest.{anyBelow}
 use Rattle.records.specs.Mistake.{recordWrong}
 use Rattle.bundle.specs.declared.access.Mark.{Mark}
 use Rattle.bundle.specs.declared.access.Mark.the-variants.{Present, Absent, Unmarked}
+use Rattle.bundle.specs.Edition.{mostNames}
 use Rattle.bundle.specs.Layout.{entitiesOf, namesOf, recordsOf, recordBytes}
 
 pub record Content : Type 0 where
@@ -22,12 +23,9 @@ pub record Content : Type 0 where
   -- in order, each a list of twelve bytes
   pub records : List (List ℕ)
 
--- the most that a bundle has of each
+-- the most entities and records that a bundle has
 abbrev pub mostEntities : ℕ
 mostEntities = 32
-
-abbrev pub mostNames : ℕ
-mostNames = 16
 
 abbrev pub mostRecords : ℕ
 mostRecords = 240

@@ -6,15 +6,13 @@ use lib.ListN.{drop}
 use lib.Dec.{eqb, ltb}
 use Rattle.base.specs.Byte.{byteAt}
 use Rattle.block.specs.Block.{checkOf}
+use Rattle.bundle.specs.Edition.{editionFor}
 use Rattle.bundle.specs.Layout.{blocksFor, recordsIn}
 use Rattle.content.specs.Content.{Content, count, recordAt, tabulate}
 
 -- the edition of a content, which stands in byte 0
-abbrev pub firstEdition : ℕ
-firstEdition = 1
-
 abbrev pub editionOf : Content → ℕ
-editionOf c = firstEdition
+editionOf c = editionFor (c .names)
 
 -- byte i of block 0 below its check: the edition, E, R, N, and the marks of the shelves with zeros behind them
 abbrev pub firstByte : Content → ℕ → ℕ

@@ -21,6 +21,7 @@ use Rattle.records.specs.Kinds.{wrongBy}
 use Rattle.records.specs.Bytes.{credentialIn}
 use Rattle.bundle.specs.declared.read.Sizes.{Sizes}
 use Rattle.bundle.specs.declared.question.Question.{Question}
+use Rattle.bundle.specs.Edition.{editionFor}
 use Rattle.bundle.specs.Layout.{entitiesOf, namesOf}
 use Rattle.bundle.specs.Rows.{readerRows, Accepts}
 use Rattle.bundle.specs.Held.{shelves, credentials, held as heldIn, holdingWith}
@@ -205,7 +206,7 @@ all-as-stated : map computed casesOnBytes ≡ map stated casesOnBytes
 unfolding computed stated casesOnBytes zipWith bundles cases house houseWithout5 presentBut upTo
     filled recordBytes firstBlock recordBlock houseRecords whole removed sheetBlock
     among someAbsent layoutWrong checkWrong checkOf weighed
-    pass checkPass checksPass weighFrom anyFrom lowest wrongBy credentials credentialIn
+    editionFor pass checkPass checksPass weighFrom anyFrom lowest wrongBy credentials credentialIn
 all-as-stated = refl
 
 -- every case of RT0's list is there, in its order

@@ -16,7 +16,8 @@ use Rattle.base.proofs.Flags.{or-false}
 use Rattle.base.proofs.Lowest.{Missed, any-none, any-false}
 use Rattle.block.specs.Block.{block, weighed, checkOf, storedCheck, checkWrong}
 use Rattle.bundle.specs.declared.read.Sizes.{Sizes}
-use Rattle.bundle.specs.Layout.{lengthWrong, blocks, sizesIn, entitiesOf, firstByteWrong, firstWrong, blocksFor, recordsOf, recordsIn}
+use Rattle.bundle.specs.Edition.{editionFor}
+use Rattle.bundle.specs.Layout.{lengthWrong, blocks, sizesIn, entitiesOf, namesOf, firstByteWrong, firstWrong, blocksFor, recordsOf, recordsIn}
 use Rattle.bundle.specs.Layout.{besideByteWrong, besideWrong, badCheck, badBeside, badRecord}
 use Rattle.bundle.specs.Rows.{Accepts}
 use Rattle.bundle.proofs.Stages.{length-right}
@@ -112,7 +113,7 @@ pass bytes =
     record {
       wrong-length = lengthWrong (length bytes);
       wrong-check = anyBelow (λ k. not (eqb (checkPass (block bytes k)) (storedCheck (block bytes k)))) (blocks bytes);
-      wrong-first = anyFrom (firstByteWrong (entitiesOf first)) 0 (take 510 first);
+      wrong-first = anyFrom (firstByteWrong (editionFor (namesOf first)) (entitiesOf first)) 0 (take 510 first);
       wrong-beside = anyBelow
           (λ j. anyFrom (besideByteWrong j (recordsIn (recordsOf bytes) j)) 0 (take 510 (block bytes (j + 1)))) (blocks bytes - 1);
       wrong-record = anyBelow (badRecord bytes) (recordsOf bytes);

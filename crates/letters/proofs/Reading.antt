@@ -13,7 +13,8 @@ use Rattle.base.specs.Range.{outside}
 use Rattle.base.specs.Refusals.{AtPlace, FromOne, refused, passed}
 use Rattle.base.proofs.Flags.{Tells, or-tells, outside-tells, or-false, inside, clash-flag}
 use Rattle.base.proofs.Judging.{judged-more}
-use Rattle.content.specs.Content.{mostEntities, mostNames}
+use Rattle.bundle.specs.Edition.{mostNames}
+use Rattle.content.specs.Content.{mostEntities}
 use Rattle.writer.specs.declared.answer.Wrote.{Wrote}
 use Rattle.writer.specs.declared.answer.Wrote.the-variants.{Length, Refused}
 use Rattle.spelling.specs.Line.{lineOf, RightLine}

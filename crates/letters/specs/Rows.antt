@@ -8,7 +8,8 @@ use mathlib.Core.List.{List, [], _∷_, _++_}
 use lib.ListN.{length}
 use Rattle.base.specs.Range.{Outside, outside}
 use Rattle.base.specs.Refusals.{Row, row, AtPlace, AtZero, FromOne}
-use Rattle.content.specs.Content.{mostEntities, mostNames, mostRecords, wholeRecords}
+use Rattle.bundle.specs.Edition.{mostNames}
+use Rattle.content.specs.Content.{mostEntities, mostRecords, wholeRecords}
 use Rattle.writer.specs.Rows.{listRows}
 use Rattle.spelling.specs.Line.{RightLine}
 use Rattle.letters.specs.Lines.{textOf, credentialsIn, lineCount, lineAt}

@@ -3,6 +3,7 @@
 ghost use mathlib.Core.Path.{_≡_};
 ghost use Rattle.letters.specs.Rows.{outOfRange};
 use base::outside;
+use bundle::edition::Edition;
 use writer::judge::Most;
 
 pub mod read;
@@ -12,5 +13,5 @@ pub mod write;
 pub(crate) fn out_of_range(entities: usize, names: usize) -> bool
     ensures { λ r. ⌜ r ≡ outOfRange entities names ⌝ }
 {
-    outside(Most::ENTITIES, entities) | outside(Most::NAMES, names)
+    outside(Most::ENTITIES, entities) | outside(Edition::MOST_NAMES, names)
 }

@@ -12,6 +12,7 @@ use Rattle.base.specs.Refusals.{refused, passed}
 use Rattle.base.proofs.Flags.{inside-flag}
 use Rattle.bundle.specs.declared.read.Sizes.{Sizes}
 use Rattle.bundle.specs.declared.read.Reading.the-variants as reading
+use Rattle.bundle.specs.Edition.{mostNames}
 use Rattle.bundle.specs.Layout.{longestBundle}
 use Rattle.bundle.specs.Rows.{readerRows, Reads, Accepts}
 use Rattle.bundle.specs.Held.{held}
@@ -76,7 +77,7 @@ module _ (bytes : List ℕ) (s : Sizes) (h : Accepts bytes s) where
         let c = accepted-contents bytes s h in
         let E = s .entities in
         let R = s .names in
-        let inside : outOfRange E R ≡ false = rw (inside-flag 32 E (c .some-entity) (c .most-entities), inside-flag 16 R (c .some-name) (c .most-names)) refl in
+        let inside : outOfRange E R ≡ false = rw (inside-flag 32 E (c .some-entity) (c .most-entities), inside-flag mostNames R (c .some-name) (c .most-names)) refl in
         let short = text-short E R (omega (arith, c .most-entities)) (omega (arith, c .most-names)) (held bytes) (c .valid) in
         let few : length (held bytes) ≤ 240 = omega (arith, many, c .most-records) in
         given (omega (arith, short, few))

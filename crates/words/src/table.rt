@@ -3,12 +3,13 @@ ghost use mathlib.Core.Path.{_≡_};
 ghost use Prim.Native.Nat.{min};
 ghost use Rattle.words.specs.Give.{outsideTables, placeOf, wordOf, copiedOver};
 use base::outside;
+use bundle::edition::Edition;
 
 // The sizes of a table: role names for each entity, entities, words, and facts, one for each bit.
 pub struct Table;
 
 impl Table {
-    pub const NAMES: usize = 16;
+    pub const NAMES: usize = Edition::MOST_NAMES;
 
     pub const ENTITIES: usize = 32;
 

@@ -7,9 +7,10 @@ use lib.ListN.{length, take, drop, set}
 use Rattle.base.specs.Byte.{byteAt}
 use Rattle.base.proofs.Parts.{part-is, found-part}
 use Rattle.block.specs.Block.{block, blockOf}
+use Rattle.bundle.specs.Edition.{editionFor}
 use Rattle.bundle.specs.Layout.{blocksFor}
 use Rattle.content.specs.Content.{wholeRecords, contentFrom}
-use Rattle.content.specs.Encode.{firstEdition, sealedBlock, written}
+use Rattle.content.specs.Encode.{sealedBlock, written}
 use Rattle.content.specs.InPlace.{replaced, sealedAt, Filled, placed, PutBlock, PutLast, givenByte, listedByte}
 use Rattle.content.proofs.Sealed.{length-sealed}
 use Rattle.content.proofs.Written.{length-replaced, replaced-here, replaced-else, part-replaced, Begun, begun-none, begun-more, begun-done}
@@ -18,7 +19,7 @@ use Rattle.content.proofs.Listed.{count-given, first-given, block-given}
 
 module _ (E R : ℕ) (marks list before : List ℕ) where
   -- block 0
-  fill-begun : (N : ℕ) (first : List ℕ) → N ≡ wholeRecords list → 512 ≤ length before → first ≡ sealedBlock (givenByte firstEdition E R N marks)
+  fill-begun : (N : ℕ) (first : List ℕ) → N ≡ wholeRecords list → 512 ≤ length before → first ≡ sealedBlock (givenByte (editionFor R) E R N marks)
       → Begun (contentFrom E R marks list) before (0 + 1) (first ++ drop 512 before)
   unfolding replaced
   fill-begun N first e room h =
@@ -54,7 +55,7 @@ continues-more list first middle after j whole room h e E R marks before begun =
 
 -- all blocks
 pub fill-done : (E R : ℕ) (marks list before : List ℕ) (N j : ℕ) (first after : List ℕ) → N ≡ wholeRecords list
-    → 512 * blocksFor (wholeRecords list) ≤ length before → first ≡ sealedBlock (givenByte firstEdition E R N marks) → j ≡ (wholeRecords list + 39) / 40
+    → 512 * blocksFor (wholeRecords list) ≤ length before → first ≡ sealedBlock (givenByte (editionFor R) E R N marks) → j ≡ (wholeRecords list + 39) / 40
     → Continues list j (first ++ drop 512 before) after → after ≡ written (contentFrom E R marks list) before
 fill-done E R marks list before N j first after n room f e h =
     let blocks : j + 1 ≡ blocksFor (wholeRecords list) = omega arith in

@@ -8,7 +8,8 @@ use borrow.Author.Tests.{eq-eqb, ne-eqb}
 use Rattle.base.specs.Byte.{byteAt}
 use Rattle.base.specs.Range.{outside}
 use Rattle.base.proofs.Lowest.{Missed, any-hit, any-none}
-use Rattle.content.specs.Content.{mostEntities, mostNames, markWrong, marksWrong}
+use Rattle.bundle.specs.Edition.{mostNames}
+use Rattle.content.specs.Content.{mostEntities, markWrong, marksWrong}
 use Rattle.writer.specs.Rows.{headWrong}
 
 module _ (E : ℕ) (marks : List ℕ) where

@@ -14,9 +14,10 @@ use Rattle.base.proofs.Flags.{or-false, not-true-false, inside}
 use Rattle.base.proofs.Refusals.{due-number, clear-first, clear-later}
 use Rattle.records.specs.Mistake.{recordWrong}
 use Rattle.records.proofs.Mistakes.{right-record}
+use Rattle.bundle.specs.Edition.{mostNames}
 use Rattle.bundle.specs.Layout.{entitiesOf, namesOf, sizesIn, blocksFor}
 use Rattle.bundle.specs.Rows.{readerRows, Accepts}
-use Rattle.content.specs.Content.{mostEntities, mostNames, Content, ValidContent, count, contentOf, contentFrom, wholeRecords, marksWrong}
+use Rattle.content.specs.Content.{mostEntities, Content, ValidContent, count, contentOf, contentFrom, wholeRecords, marksWrong}
 use Rattle.content.specs.Encode.{sizeOf, written}
 use Rattle.content.specs.InPlace.{StartsWith, PutLast}
 use Rattle.content.proofs.Whole.{Small, count-said, size-said, one-encoding, byte-encode, valid-content}

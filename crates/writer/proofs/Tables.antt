@@ -23,12 +23,13 @@ use Rattle.records.proofs.Mistakes.{one-place, numbered, wrong-due, mistake-num
 use Rattle.bundle.specs.declared.read.Sizes.{Sizes}
 use Rattle.bundle.specs.declared.read.Reading.{Reading}
 use Rattle.bundle.specs.declared.read.Reading.the-variants as reading
+use Rattle.bundle.specs.Edition.{mostNames}
 use Rattle.bundle.specs.Layout.{entitiesOf, namesOf, recordsOf, blocksFor}
 use Rattle.bundle.specs.Rows.{readerRows, Reads, Accepts}
 use Rattle.bundle.proofs.Refusals.{reader-places, reader-numbers, reads-accepted}
 use Rattle.bundle.proofs.Accepted.{accepted-contents}
 use Rattle.bundle.proofs.Determined.{reads-refused}
-use Rattle.content.specs.Content.{mostEntities, mostNames, marksWrong, listed, wholeRecords}
+use Rattle.content.specs.Content.{mostEntities, marksWrong, listed, wholeRecords}
 use Rattle.writer.specs.declared.answer.Wrote.{Wrote}
 use Rattle.writer.specs.declared.judge.Flaw.{Flaw}
 use Rattle.writer.specs.declared.answer.Wrote.the-variants.{Length, Refused}

@@ -9,9 +9,10 @@ use Rattle.base.specs.Range.{Outside, outside}
 use Rattle.base.specs.Lowest.{LowestBelow}
 use Rattle.base.specs.Refusals.{Row, row, AtPlace, AtZero, FromOne, Judged}
 use Rattle.records.specs.Mistake.{SomeByte, recordWrong}
+use Rattle.bundle.specs.Edition.{mostNames}
 use Rattle.bundle.specs.Layout.{entitiesOf, namesOf, recordsOf, blocksFor}
 use Rattle.bundle.specs.Rows.{readerRows}
-use Rattle.content.specs.Content.{mostEntities, mostNames, mostRecords, marksWrong, listed, wholeRecords}
+use Rattle.content.specs.Content.{mostEntities, mostRecords, marksWrong, listed, wholeRecords}
 use Rattle.writer.specs.declared.answer.Wrote.{Wrote}
 use Rattle.writer.specs.declared.judge.Flaw.{Flaw}
 use Rattle.writer.specs.declared.answer.Wrote.the-variants.{Length, Refused}

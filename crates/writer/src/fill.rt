@@ -2,28 +2,23 @@
 ghost use mathlib.Core.Path.{_≡_};
 ghost use Prim.Native.Nat.{_+_, _*_, _%_, _<_, _≤_};
 ghost use lib.ListN.{length};
+ghost use Rattle.bundle.specs.Edition.{editionFor};
 ghost use Rattle.bundle.specs.Layout.{blocksFor};
 ghost use Rattle.content.specs.Content.{wholeRecords, contentFrom};
-ghost use Rattle.content.specs.Encode.{firstEdition, sealedBlock, written};
+ghost use Rattle.content.specs.Encode.{sealedBlock, written};
 ghost use Rattle.content.specs.InPlace.{replaced, givenByte, listedByte};
 use crate::seal::seal;
 use base::byte;
 use block::Block;
+use bundle::edition::edition_for;
 use bundle::layout::records_in;
-
-// The editions of a bundle.
-pub struct Edition;
-
-impl Edition {
-    pub const FIRST: u8 = 1;
-}
 
 // Byte i of block 0.
 fn first_byte(entities: u8, names: u8, count: u8, marks: &[u8], i: usize) -> u8
-    ensures { λ r. ⌜ r ≡ givenByte firstEdition entities names count (now (marks .entry)) i ⌝ }
+    ensures { λ r. ⌜ r ≡ givenByte (editionFor names) entities names count (now (marks .entry)) i ⌝ }
 {
     if i == 0 {
-        return Edition::FIRST;
+        return edition_for(names as usize);
     }
     if i == 1 {
         return entities;
@@ -41,7 +36,7 @@ fn first_byte(entities: u8, names: u8, count: u8, marks: &[u8], i: usize) -> u8
 // Block 0.
 fn fill_first(bytes: &mut [u8], entities: u8, names: u8, count: u8, marks: &[u8])
     requires { ⌜ length (now bytes) ≡ 512 ⌝ }
-    ensures { λ _. ⌜ now (bytes .exit) ≡ sealedBlock (givenByte firstEdition entities names count (now (marks .entry))) ⌝ }
+    ensures { λ _. ⌜ now (bytes .exit) ≡ sealedBlock (givenByte (editionFor names) entities names count (now (marks .entry))) ⌝ }
 {
     let mut i: usize = 0;
     while i < Block::CHECK_PLACE {

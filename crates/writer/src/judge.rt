@@ -13,6 +13,7 @@ use crate::answer::Wrote;
 use base::byte;
 use base::outside;
 use block::Block;
+use bundle::edition::Edition;
 use bundle::read::Reading;
 use bundle::read::Sizes;
 use bundle::read::read;
@@ -20,13 +21,11 @@ use records::mistake::mistake_of;
 use records::mistake::number_of;
 use records::mistake::record_wrong;
 
-// The most that a bundle has of each.
+// The most entities and records that a bundle has.
 pub struct Most;
 
 impl Most {
     pub const ENTITIES: usize = 32;
-
-    pub const NAMES: usize = 16;
 
     pub const RECORDS: usize = 240;
 }
@@ -59,7 +58,9 @@ fn marks_wrong(entities: usize, marks: &[u8]) -> bool
 fn head_wrong(entities: usize, names: usize, marks: &[u8]) -> bool
     ensures { λ r. ⌜ r ≡ headWrong entities names (now (marks .entry)) ⌝ }
 {
-    outside(Most::ENTITIES, entities) | outside(Most::NAMES, names) | marks_wrong(entities, marks)
+    outside(Most::ENTITIES, entities)
+        | outside(Edition::MOST_NAMES, names)
+        | marks_wrong(entities, marks)
 }
 
 // Whether so many records are too many, or the buffer too short for them.

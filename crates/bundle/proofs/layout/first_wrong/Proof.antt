@@ -9,10 +9,19 @@ use Rattle.bundle.proofs.layout.first_wrong.Statement.{statement}
 use Rattle.bundle.proofs.layout.first_wrong.Tie as tie
 
 abbrev Inv-loop : tie.InvT-loop
-Inv-loop first i₀ i = (i ≤ 510) × Missed (λ k. firstByteWrong (byteAt first 1) k (byteAt first k)) i
+Inv-loop first edition i₀ i = (i ≤ 510) × Missed (λ k. firstByteWrong edition (byteAt first 1) k (byteAt first k)) i
 
 abbrev μ-loop : tie.MeasureT-loop
-μ-loop first i₀ i = 510 - i
+μ-loop first edition i₀ i = 510 - i
+
+byte-requires : tie.Need-byte-requires Inv-loop μ-loop
+byte-requires c κs = search needs
+
+edition-for-requires : tie.Need-edition-for-requires Inv-loop μ-loop
+edition-for-requires c κs = search needs
+
+cast-edition : tie.Need-cast-edition Inv-loop μ-loop
+cast-edition c = search needs
 
 loop-holds : tie.Need-loop-holds Inv-loop μ-loop
 loop-holds c = (search needs, missed-none _)
@@ -22,7 +31,9 @@ first-byte-wrong-requires c κs = search needs
 
 returns : tie.Need-returns Inv-loop μ-loop
 unfolding firstWrong
-returns c = any-hit _ _ _ (search needs) (c .before .before .before .loop .inv .1) (sym (c .before .first-byte-wrong .ensures) ∙ c .if1 .taken)
+returns c =
+    let before = c .before .before .before .before in
+    rw (← (before .before .byte .ensures .0), ← (before .edition-for .ensures)) (any-hit _ _ _ (search needs) (c .before .before .before .loop .inv .1) (sym (c .before .first-byte-wrong .ensures) ∙ c .if1 .taken))
 
 add-i : tie.Need-add-i Inv-loop μ-loop
 add-i c = search needs
@@ -35,7 +46,9 @@ loop-again c = (search needs, missed-more _ _ (c .before .before .before .loop .
 
 returns-2 : tie.Need-returns-2 Inv-loop μ-loop
 unfolding firstWrong
-returns-2 c = any-none _ _ _ (c .before .loop .inv .0) (c .loop-test .left) (c .before .loop .inv .1)
+returns-2 c =
+    let before = c .before .before in
+    rw (← (before .before .byte .ensures .0), ← (before .edition-for .ensures)) (any-none _ _ _ (c .before .loop .inv .0) (c .loop-test .left) (c .before .loop .inv .1))
 
 pub first-wrong-spec : {M : Type 1} → statement M
 first-wrong-spec =
@@ -43,6 +56,9 @@ first-wrong-spec =
     (tie.spec
     Inv-loop
     μ-loop
+    byte-requires
+    edition-for-requires
+    cast-edition
     loop-holds
     first-byte-wrong-requires
     returns

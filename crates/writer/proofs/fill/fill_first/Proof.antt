@@ -4,7 +4,7 @@ use Prim.Native.Nat.{_-_, _≤_}
 use mathlib.Core.Path.{sym, _∙_}
 use native.Mathlib.Omega.{arith}
 use borrow.Author.Needs.{needs}
-use Rattle.content.specs.Encode.{firstEdition}
+use Rattle.bundle.specs.Edition.{editionFor}
 use Rattle.content.specs.InPlace.{Filled, givenByte}
 use Rattle.content.proofs.Sealed.{length-sealed}
 use Rattle.content.proofs.Stores.{filled-none, filled-more, filled-sealed}
@@ -12,7 +12,7 @@ use Rattle.writer.proofs.fill.fill_first.Statement.{statement}
 use Rattle.writer.proofs.fill.fill_first.Tie as tie
 
 abbrev Inv-loop : tie.InvT-loop
-Inv-loop bytes₀ entities names count marks i₀ bytes i = (i ≤ 510) × Filled (givenByte firstEdition entities names count marks) i bytes
+Inv-loop bytes₀ entities names count marks i₀ bytes i = (i ≤ 510) × Filled (givenByte (editionFor names) entities names count marks) i bytes
 
 abbrev μ-loop : tie.MeasureT-loop
 μ-loop bytes₀ entities names count marks i₀ bytes i = 510 - i
