@@ -52,7 +52,7 @@
  *      2  the check of a block differs from the one that stands in it; place: all such blocks, bit k for block k, from 0, at
  *         most 127. Place 10 = 2 + 8: blocks 1 and 3 are damaged; fetch these two again
  *      3  block 0 breaks its layout: edition, entities, names, records, marks, or a byte that should be zero; write: entities
- *         not 1 to 32, names not 1 to 16, or wrong marks; read_lines and write_lines: these two numbers; place 0
+ *         not 1 to 32, names not 1 to 32, or wrong marks; read_lines and write_lines: these two numbers; place 0
  *      4  the number of blocks does not fit the number of records; place 0
  *      5  in a record block an unused place, a byte that should be zero, its number or its count is wrong; place: the block
  *     61  a record's form, its byte 0, is not 1 to 4; place: the record, from 1, in the bundle or in the list; of an append's
@@ -65,7 +65,7 @@
  *         wrong (with a sheet only: after the bundle's own refusals, before 7 and 8); place 0
  *      7  the question names an entity or a role name that the bundle does not have, or 0 (searches and check), or a record that
  *         it does not have, or 0 (holders); place 0
- *      8  a lent table has fewer than 512 words (search and tables), or the slip buffer fewer than 61,440 bytes (search only); place 0
+ *      8  a lent table has fewer than 1,024 words (search and tables), or the slip buffer fewer than 61,440 bytes (search only); place 0
  *      9  the slip's length is 0, above 61,440 or no multiple of 8 (check only); place 0
  *     10  a line of the slip is not right: its credential, a premise, or what the premises state (check only); place: the line, from 1
  *     11  every line is right, and the last states another fact than the question's (check only); place 0
@@ -91,7 +91,7 @@
 extern "C" {
 #endif
 
-#define PORTERTRUNK_WORDS 512         /* words that a table needs */
+#define PORTERTRUNK_WORDS 1024        /* words that a table needs */
 #define PORTERTRUNK_SLIP_BYTES 61440  /* bytes that the slip buffer needs: 7,680 lines of 8 */
 #define PORTERTRUNK_MARKS 32          /* mark bytes that a bundle is written from, one for each shelf */
 #define PORTERTRUNK_RECORD_BYTES 12   /* bytes of a record */
@@ -100,16 +100,16 @@ extern "C" {
 #define PORTERTRUNK_TEXT_BYTES 9360   /* bytes that the lines of 240 records have at most */
 #define PORTERTRUNK_SHEET_BYTES 512   /* bytes of a sheet of storage types */
 
-/* Searches. A refused call leaves every lent word and byte as it was. Otherwise the first 512 words of
- * each table are written: role r of entity a is word 16 * (a - 1) + r - 1, and the member d is bit d - 1.
+/* Searches. A refused call leaves every lent word and byte as it was. Otherwise the first 1,024 words of
+ * each table are written: role r of entity a is word 32 * (a - 1) + r - 1, and the member d is bit d - 1.
  * `sure` holds the members by the credentials held, `possible` those under at least one completion by
- * houses whose shelf is absent. Words from 512 on stay. With YES the slip stands in the first 8 * lines
+ * houses whose shelf is absent. Words from 1,024 on stay. With YES the slip stands in the first 8 * lines
  * bytes of `slip`, and the bytes past it stay; with NO and UNSURE the slip buffer is not touched. */
 uint64_t portertrunk_search(const uint8_t *bundle, size_t bundle_bytes, uint8_t d, uint8_t a, uint8_t r,
                             uint32_t *sure, size_t sure_words, uint32_t *possible, size_t possible_words,
                             uint8_t *slip, size_t slip_bytes);
 
-/* Fills the two tables, without a question: `sure` and `possible` as the search leaves them, words from 512 on stay. The result
+/* Fills the two tables, without a question: `sure` and `possible` as the search leaves them, words from 1,024 on stay. The result
  * has the number of rounds, with verdict and lines 0. A refused call (1 to 5, 61 to 65, 8) leaves every lent word as it was. */
 uint64_t portertrunk_tables(const uint8_t *bundle, size_t bundle_bytes, uint32_t *sure, size_t sure_words,
                             uint32_t *possible, size_t possible_words);
@@ -125,7 +125,7 @@ uint64_t portertrunk_search_with_sheet(const uint8_t *bundle, size_t bundle_byte
                                        uint8_t d, uint8_t a, uint8_t r, uint32_t *sure, size_t sure_words,
                                        uint32_t *possible, size_t possible_words, uint8_t *slip, size_t slip_bytes);
 
-/* Fills the two tables of a bundle with a sheet, without a question: as the search with a sheet leaves them, words from 512
+/* Fills the two tables of a bundle with a sheet, without a question: as the search with a sheet leaves them, words from 1,024
  * on stay. The result has the number of rounds, with verdict and lines 0. A refused call (1 to 5, 61 to 65, 15, 8) leaves
  * every lent word as it was. */
 uint64_t portertrunk_tables_with_sheet(const uint8_t *bundle, size_t bundle_bytes, const uint8_t *sheet, size_t sheet_bytes,
@@ -136,7 +136,7 @@ uint64_t portertrunk_tables_with_sheet(const uint8_t *bundle, size_t bundle_byte
 uint64_t portertrunk_check(const uint8_t *bundle, size_t bundle_bytes, uint8_t d, uint8_t a, uint8_t r,
                            const uint8_t *slip, size_t slip_bytes);
 
-/* Writes a bundle to the front of the buffer `bundle`: so many entities (1 to 32) and names (1 to 16), the mark bytes of the
+/* Writes a bundle to the front of the buffer `bundle`: so many entities (1 to 32) and names (1 to 32), the mark bytes of the
  * 32 shelves (1 present, 2 absent, 0 for a shelf above the number of entities), and the records one after the other, twelve
  * bytes each, of which there may be none. A bundle of n records has 512 bytes and 512 more for every 40 records begun. Bytes
  * past it stay. A refused call writes nothing. What is written can be read back, and is the only encoding of what was given. */
@@ -149,7 +149,7 @@ uint64_t portertrunk_write(uint8_t entities, uint8_t names, const uint8_t *marks
  * would give, and every slip that was accepted before is accepted after. */
 uint64_t portertrunk_append(uint8_t *bundle, size_t bundle_bytes, size_t length, const uint8_t *record, size_t record_bytes);
 
-/* Reads a letter, credentials as lines of text over so many entities (1 to 32) and names (1 to 16), and stores their records,
+/* Reads a letter, credentials as lines of text over so many entities (1 to 32) and names (1 to 32), and stores their records,
  * twelve bytes each, at the front of the buffer `records`. A line is one of
  *     e2.r3 <- e3
  *     e1.r2 <- e2.r3
