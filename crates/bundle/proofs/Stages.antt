@@ -1,6 +1,6 @@
 -- The stages of the reader: each answers at the first refusal that applies, and else hands on.
 use Prim.Native.Nat.{ℕ, _+_, _-_, _*_, _/_, _%_, _<_, _≤_}
-use mathlib.Core.Path.{_≡_, refl, ap}
+use mathlib.Core.Path.{_≡_, refl, _∙_, ap}
 use mathlib.Core.Bool.{Bool, true, false, not, _||_}
 use mathlib.Core.List.{List}
 use lib.ListN.{length, take}
@@ -8,12 +8,14 @@ use lib.Dec.{eqb, ltb}
 use native.Mathlib.Omega.{arith}
 use borrow.Author.Tests.{lt-ltb, le-ltb, eq-eqb, ne-eqb, eqb-true, eqb-false, ltb-false, not-false}
 use Rattle.rt0.specs.Word.{bitsBelow}
-use Rattle.base.specs.Lowest.{lowest}
+use Rattle.base.specs.Byte.{byteAt}
+use Rattle.base.specs.Lowest.{lowest, anyBelow}
 use Rattle.base.proofs.Flags.{or-false}
 use Rattle.block.specs.Block.{block}
 use Rattle.bundle.specs.declared.read.Sizes.{Sizes}
 use Rattle.bundle.specs.declared.read.Reading.the-variants.{Accepted, Refused}
-use Rattle.bundle.specs.Layout.{longestBundle, lengthWrong, blocks, recordsOf, sizesIn, firstWrong, blocksFor, badCheck, badBeside, badRecord}
+use Rattle.bundle.specs.Edition.{editionFor}
+use Rattle.bundle.specs.Layout.{longestBundle, lengthWrong, blocks, entitiesOf, namesOf, recordsOf, sizesIn, firstByteWrong, firstWrong, blocksFor, badCheck, badBeside, badRecord}
 use Rattle.bundle.specs.Reading.{mistakeIn, recordTests, besideTests, countTests, firstTests, checkTests, readerTests, readBy, readOf}
 
 -- a right length is that of one to seven whole blocks
@@ -86,6 +88,13 @@ module _ (bytes : List ℕ) where
   pub length-passed : lengthWrong (length bytes) ≡ false → readBy bytes (checkTests bytes) ≡ readOf bytes
   unfolding readBy readerTests
   length-passed h = rw h
+
+-- what was found of block 0 with the edition that its R asks for
+pub first-found : (first : List ℕ) (R edition : ℕ) (found : Bool) → R ≡ namesOf first → edition ≡ editionFor R
+    → found ≡ anyBelow (λ i. firstByteWrong edition (entitiesOf first) i (byteAt first i)) 510 → found ≡ firstWrong first
+unfolding firstWrong
+first-found first R edition found r e h =
+    h ∙ ap (λ (x : ℕ). anyBelow (λ i. firstByteWrong x (entitiesOf first) i (byteAt first i)) 510) (e ∙ ap editionFor r)
 
 -- what was found of the first 512 bytes holds of block 0
 pub found-first : (bytes : List ℕ) (found : Bool) → found ≡ firstWrong (take 512 bytes) → found ≡ firstWrong (block bytes 0)

@@ -3,8 +3,9 @@ use Prim.Native.Nat.{_-_, _≤_}
 use mathlib.Core.Path.{sym, _∙_}
 use borrow.Author.Needs.{needs}
 use Rattle.base.specs.Byte.{byteAt}
-use Rattle.bundle.specs.Layout.{firstByteWrong, firstWrong}
+use Rattle.bundle.specs.Layout.{firstByteWrong}
 use Rattle.base.proofs.Lowest.{Missed, missed-none, missed-more, any-hit, any-none}
+use Rattle.bundle.proofs.Stages.{first-found}
 use Rattle.bundle.proofs.layout.first_wrong.Statement.{statement}
 use Rattle.bundle.proofs.layout.first_wrong.Tie as tie
 
@@ -30,10 +31,10 @@ first-byte-wrong-requires : tie.Need-first-byte-wrong-requires Inv-loop μ-loop
 first-byte-wrong-requires c κs = search needs
 
 returns : tie.Need-returns Inv-loop μ-loop
-unfolding firstWrong
 returns c =
     let before = c .before .before .before .before in
-    rw (← (before .before .byte .ensures .0), ← (before .edition-for .ensures)) (any-hit _ _ _ (search needs) (c .before .before .before .loop .inv .1) (sym (c .before .first-byte-wrong .ensures) ∙ c .if1 .taken))
+    first-found _ _ _ _ (before .before .byte .ensures .0) (before .edition-for .ensures)
+    (any-hit _ _ _ (search needs) (c .before .before .before .loop .inv .1) (sym (c .before .first-byte-wrong .ensures) ∙ c .if1 .taken))
 
 add-i : tie.Need-add-i Inv-loop μ-loop
 add-i c = search needs
@@ -45,10 +46,10 @@ loop-again : tie.Need-loop-again Inv-loop μ-loop
 loop-again c = (search needs, missed-more _ _ (c .before .before .before .loop .inv .1) (sym (c .before .first-byte-wrong .ensures) ∙ c .if1 .left))
 
 returns-2 : tie.Need-returns-2 Inv-loop μ-loop
-unfolding firstWrong
 returns-2 c =
     let before = c .before .before in
-    rw (← (before .before .byte .ensures .0), ← (before .edition-for .ensures)) (any-none _ _ _ (c .before .loop .inv .0) (c .loop-test .left) (c .before .loop .inv .1))
+    first-found _ _ _ _ (before .before .byte .ensures .0) (before .edition-for .ensures)
+    (any-none _ _ _ (c .before .loop .inv .0) (c .loop-test .left) (c .before .loop .inv .1))
 
 pub first-wrong-spec : {M : Type 1} → statement M
 first-wrong-spec =
