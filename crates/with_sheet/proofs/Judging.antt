@@ -10,6 +10,7 @@ use Rattle.base.proofs.Judging.{judged-between}
 use Rattle.bundle.specs.declared.question.Question.{Question}
 use Rattle.bundle.specs.declared.read.Sizes.{Sizes}
 use Rattle.bundle.specs.declared.read.Reading.the-variants as reading
+use Rattle.bundle.specs.Edition.{mostNames}
 use Rattle.bundle.specs.Layout.{namesOf}
 use Rattle.bundle.specs.Rows.{readerRows, Reads}
 use Rattle.bundle.specs.Question.{questionRow}
@@ -65,16 +66,16 @@ module _ {found : Bool} {R : ℕ} {sheet : List ℕ} (tells : (found ≡ true) �
   pub not-right : found ≡ false → RightSheet R sheet → ⊥
   not-right left right = true≢false (sym (tells .1 right) ∙ left)
 
-module _ (bytes sheet : List ℕ) (right : RightSheet (namesOf bytes) sheet) (names : ℕ) (e : names ≡ looseWord sheet 32) where
+module _ (bytes sheet : List ℕ) (right : RightSheet (namesOf bytes) sheet) (names : ℕ) (e : names ≡ looseWord sheet mostNames) where
   pub tables-judged : (before after : Tables) (o : Filled) → TablesWith (openNames names bytes) bytes before after o
       → SheetTables bytes sheet before after o
   tables-judged before after o p =
       judged-between (readerRows bytes) (shortRow before ∷ []) (sheetRow (namesOf bytes) sheet) (λ (_, (_, wrong)). wrong right)
-      (tables-within bytes (openNames (looseWord sheet 32) bytes) (openBySheet sheet bytes) (loosened sheet bytes) before after o (rw e at p))
+      (tables-within bytes (openNames (looseWord sheet mostNames) bytes) (openBySheet sheet bytes) (loosened sheet bytes) before after o (rw e at p))
 
   pub search-judged : (q : Question) (before after : Lent) (o : Outcome) → PromiseWith (openNames names bytes) bytes q before after o
       → SheetSearch bytes sheet q before after o
   search-judged q before after o p =
       judged-between (readerRows bytes) (questionRow bytes q ∷ lentRow before ∷ []) (sheetRow (namesOf bytes) sheet)
       (λ (_, (_, wrong)). wrong right)
-      (promise-within bytes (openNames (looseWord sheet 32) bytes) (openBySheet sheet bytes) (loosened sheet bytes) q before after o (rw e at p))
+      (promise-within bytes (openNames (looseWord sheet mostNames) bytes) (openBySheet sheet bytes) (loosened sheet bytes) q before after o (rw e at p))

@@ -4,9 +4,11 @@ ghost use mathlib.Core.Path.{_≡_};
 ghost use Rattle.answers.specs.Answer.{outcomeOf};
 ghost use Rattle.tables.specs.Promise.{tables};
 ghost use Rattle.search.specs.Promise.{lent};
+ghost use Rattle.bundle.specs.Edition.{mostNames};
 ghost use Rattle.with_sheet.specs.Open.{looseWord};
 ghost use Rattle.with_sheet.specs.Promise.{SheetTables, SheetSearch};
 use answers::Answer;
+use bundle::edition::Edition;
 use bundle::question::Question;
 use bundle::read::Reading;
 use bundle::read::read;
@@ -19,11 +21,11 @@ use tables::fill_opening;
 
 // The names that a sheet gives code 1 or 2, one bit each.
 fn loose_names(sheet: &[u8]) -> u32
-    ensures { λ r. ⌜ r ≡ looseWord (now (sheet .entry)) 32 ⌝ }
+    ensures { λ r. ⌜ r ≡ looseWord (now (sheet .entry)) mostNames ⌝ }
 {
     let mut names: u32 = 0;
     let mut i: usize = 0;
-    while i < 32 {
+    while i < Edition::MOST_NAMES {
         let code = code_of(sheet, i + 1);
         if (code == 1) | (code == 2) {
             names = names | (1u32 << i);

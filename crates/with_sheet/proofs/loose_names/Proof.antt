@@ -5,16 +5,17 @@ use Prim.Native.Nat.{_-_, _≤_}
 use mathlib.Core.Path.{_≡_, _∙_}
 use mathlib.Core.Logic.{⊎-elim}
 use Rattle.rt0.proofs.BitsBelow.{bits-none}
+use Rattle.bundle.specs.Edition.{mostNames}
 use Rattle.with_sheet.specs.Open.{looseWord}
 use Rattle.with_sheet.proofs.Loosened.{loose-one, loose-other}
 use Rattle.with_sheet.proofs.loose_names.Statement.{statement}
 use Rattle.with_sheet.proofs.loose_names.Tie as tie
 
 abbrev Inv-loop : tie.InvT-loop
-Inv-loop sheet names₀ i₀ names i = (i ≤ 32) × (names ≡ looseWord sheet i)
+Inv-loop sheet names₀ i₀ names i = (i ≤ mostNames) × (names ≡ looseWord sheet i)
 
 abbrev μ-loop : tie.MeasureT-loop
-μ-loop sheet names₀ i₀ names i = 32 - i
+μ-loop sheet names₀ i₀ names i = mostNames - i
 
 loop-holds : tie.Need-loop-holds Inv-loop μ-loop
 unfolding looseWord
@@ -48,7 +49,7 @@ loop-again c =
 
 returns : tie.Need-returns Inv-loop μ-loop
 returns c =
-    let e : c .before .loop .i ≡ 32 = omega arith in
+    let e : c .before .loop .i ≡ mostNames = omega arith in
     rw (← e, c .before .loop .inv .1)
 
 pub loose-names-spec : {M : Type 1} → statement M
