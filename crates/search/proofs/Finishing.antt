@@ -30,13 +30,13 @@ use Rattle.bundle.specs.Question.{roleAsked, Asked}
 use Rattle.bundle.proofs.Accepted.{Contents, accepted-contents, holding-sound}
 use Rattle.words.specs.Sizes.{mostEntities, width, tableWords, factCount, slipLines, slipBytes}
 use Rattle.premises.specs.Fact.{factNumber, HasLine, HasFact, Backed}
-use Rattle.search.specs.Ledger.{Extended}
+use Rattle.ledger.specs.Ledger.{Extended}
 use Rattle.words.specs.Step.{Steps}
 use Rattle.tables.proofs.Rounds.{all-stepped, steps-there}
-use Rattle.search.specs.Writing.{sizesWith, Writing, HasSteps, NoneOrLast, Unsaid, Finished}
+use Rattle.ledger.specs.Writing.{sizesWith, Writing, HasSteps, NoneOrLast, Unsaid, Finished}
 use Rattle.search.specs.Written.{Written}
 use Rattle.premises.proofs.Facts.{number-within, number-fact, number-holds}
-use Rattle.search.proofs.Ledgers.{ledger-nil, ledger-once}
+use Rattle.ledger.proofs.Ledgers.{ledger-nil, ledger-once}
 use Rattle.tables.proofs.Held.{held-entities, held-names, held-valid, question-within}
 
 -- ---- the start

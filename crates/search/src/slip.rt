@@ -12,12 +12,13 @@ ghost use Rattle.bundle.specs.Question.{roleAsked, Asked};
 ghost use Rattle.words.specs.Sizes.{mostEntities, width, tableWords, slipBytes};
 ghost use Rattle.words.specs.Give.{useRecord};
 ghost use Rattle.premises.specs.Fact.{HasFact, Backed};
-ghost use Rattle.search.specs.Writing.{Writing, IsRecord, HasSteps, IsGiven, AtMostOneMore};
-ghost use Rattle.search.specs.Writing.{Unsaid, Progress, AllStated, Finished};
+ghost use Rattle.ledger.specs.Writing.{Writing, IsRecord, HasSteps, IsGiven, AtMostOneMore};
+ghost use Rattle.ledger.specs.Writing.{Unsaid, Progress, AllStated, Finished};
 ghost use Rattle.search.specs.Written.{Written};
 use bundle::access::record_at;
 use bundle::question::Question;
 use bundle::read::Sizes;
+use ledger::Given;
 use premises::fact::fact_number;
 use premises::line::write_line;
 use words::give::gain;
@@ -33,14 +34,6 @@ impl Slip {
     pub const LINES: usize = 7680;
 
     pub const BYTES: usize = 8 * Slip::LINES;
-}
-
-// What a record gives over so many entities: the record's number, the first fact of its head, and the word.
-pub struct Given {
-    pub entities: usize,
-    pub number: usize,
-    pub first: usize,
-    pub word: u32,
 }
 
 // A record's turn: its number, the fact in question, and the lines so far.

@@ -4,15 +4,15 @@ use borrow.Author.Needs.{needs}
 use Prim.Native.Nat.{suc, _+_, _-_, _*_, _/_, _%_, _<_, _≤_, min}
 use mathlib.Core.Path.{_≡_, refl, sym, ap, _∙_}
 use denote.Ref.{now}
-use Rattle.search.proofs.Steps.{extended-same, extended-twice, writing-on, progress-stop, progress-end}
+use Rattle.ledger.proofs.Steps.{extended-same, extended-twice, writing-on, progress-stop, progress-end}
 use lib.ListN.{length, length-set, take, drop}
 use Rattle.words.specs.Sizes.{tableWords}
 use Rattle.words.proofs.Filling.{copied-same}
 use Rattle.tables.proofs.Rounds.{roundTo, round-none, round-more, round-all}
 use Rattle.premises.specs.Fact.{Backed}
-use Rattle.search.specs.Ledger.{Extended}
+use Rattle.ledger.specs.Ledger.{Extended}
 use Rattle.bundle.specs.Held.{held, bookIn}
-use Rattle.search.specs.Writing.{Unsaid}
+use Rattle.ledger.specs.Writing.{Unsaid}
 use Rattle.search.proofs.slip.one_round.Statement.{statement}
 use Rattle.search.proofs.slip.one_round.Tie as tie
 

@@ -1,8 +1,8 @@
 -- `search::slip::state` meets its contract.
 use Prim.Native.Nat.{_<_}
 use Rattle.words.specs.Sizes.{slipLines}
-use Rattle.search.proofs.Steps.{none-more}
-use Rattle.search.proofs.Stating.{number-most, line-room, line-more}
+use Rattle.ledger.proofs.Steps.{none-more}
+use Rattle.ledger.proofs.Stating.{number-most, line-room, line-more}
 use native.Mathlib.Omega.{arith}
 use borrow.Author.Needs.{needs}
 use Rattle.search.proofs.slip.state.Statement.{statement}

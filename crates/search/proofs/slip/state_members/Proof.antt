@@ -4,11 +4,11 @@ use borrow.Author.Needs.{needs}
 use Prim.Native.Nat.{suc, _+_, _-_, _*_, _/_, _%_, _<_, _≤_, min}
 use mathlib.Core.Path.{_≡_, refl, sym, ap, _∙_}
 use denote.Ref.{now}
-use Rattle.search.proofs.Steps.{none-more, one-at-most, bit-one, extended-same, extended-twice, writing-on, progress-stop, progress-end, stated-none, stated-more}
+use Rattle.ledger.proofs.Steps.{none-more, one-at-most, bit-one, extended-same, extended-twice, writing-on, progress-stop, progress-end, stated-none, stated-more}
 use Rattle.words.specs.Sizes.{mostEntities}
-use Rattle.search.specs.Ledger.{Extended}
+use Rattle.ledger.specs.Ledger.{Extended}
 use Rattle.bundle.specs.Held.{bookIn}
-use Rattle.search.specs.Writing.{Unsaid, AllStated}
+use Rattle.ledger.specs.Writing.{Unsaid, AllStated}
 use Rattle.search.proofs.slip.state_members.Statement.{statement}
 use Rattle.search.proofs.slip.state_members.Tie as tie
 

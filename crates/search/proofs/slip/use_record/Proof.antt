@@ -4,12 +4,12 @@ use borrow.Author.Needs.{needs}
 use Prim.Native.Nat.{suc, _+_, _-_, _*_, _/_, _%_, _<_, _≤_, min}
 use mathlib.Core.Path.{_≡_, refl, sym, ap, _∙_}
 use denote.Ref.{now}
-use Rattle.search.proofs.Stating.{place-there, gained-place, gained-word, gained-use}
-use Rattle.search.proofs.Steps.{extended-same, extended-twice, writing-on, progress-stop, progress-end}
+use Rattle.ledger.proofs.Stating.{place-there, gained-place, gained-word, gained-use}
+use Rattle.ledger.proofs.Steps.{extended-same, extended-twice, writing-on, progress-stop, progress-end}
 use Rattle.bundle.specs.Access.{recordOf}
 use Rattle.words.specs.Sizes.{tableWords}
 use Rattle.words.specs.Give.{giveOf, headPlace}
-use Rattle.search.proofs.Backing.{backed-more, none-new}
+use Rattle.ledger.proofs.Backing.{backed-more, none-new}
 use Rattle.search.proofs.slip.use_record.Statement.{statement}
 use Rattle.search.proofs.slip.use_record.Tie as tie
 

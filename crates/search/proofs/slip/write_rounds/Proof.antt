@@ -6,10 +6,10 @@ use mathlib.Core.Path.{_≡_, refl, sym, ap, _∙_}
 use denote.Ref.{now}
 use Rattle.rt0.specs.Word.{timesWords}
 use Rattle.words.specs.Sizes.{width}
-use Rattle.search.specs.Ledger.{Extended}
+use Rattle.ledger.specs.Ledger.{Extended}
 use Rattle.bundle.specs.Held.{held, bookIn}
-use Rattle.search.specs.Writing.{Writing, Unsaid}
-use Rattle.search.proofs.Steps.{extended-same, extended-twice, writing-words}
+use Rattle.ledger.specs.Writing.{Writing, Unsaid}
+use Rattle.ledger.proofs.Steps.{extended-same, extended-twice, writing-words}
 use Rattle.search.proofs.Finishing.{times-none, times-more, goal-there, last-line}
 use Rattle.search.proofs.slip.write_rounds.Statement.{statement}
 use Rattle.search.proofs.slip.write_rounds.Tie as tie

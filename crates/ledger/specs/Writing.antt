@@ -16,9 +16,9 @@ use Rattle.bundle.specs.Access.{recordOf}
 use Rattle.words.specs.Sizes.{mostEntities, tableWords, factCount, slipBytes}
 use Rattle.words.specs.Give.{giveOf, headPlace}
 use Rattle.words.specs.Step.{Stepped}
-use Rattle.search.specs.declared.slip.Given.{Given}
+use Rattle.ledger.specs.declared.Given.{Given}
 use Rattle.premises.specs.Fact.{HasLine, Backed}
-use Rattle.search.specs.Ledger.{Ledger, Extended}
+use Rattle.ledger.specs.Ledger.{Ledger, Extended}
 
 -- the sizes of a bundle of E entities
 abbrev pub sizesWith : List ℕ → ℕ → Sizes

@@ -15,9 +15,9 @@ use Rattle.words.specs.Give.{wordOf}
 use Rattle.words.proofs.Wider.{role-wider}
 use Rattle.words.proofs.Given.{word-valid}
 use Rattle.premises.specs.Fact.{lineOf, Backed}
-use Rattle.search.specs.Ledger.{Ledger}
+use Rattle.ledger.specs.Ledger.{Ledger}
 use Rattle.premises.specs.Premise.{LinesInTurn, PremisesFor}
-use Rattle.search.proofs.Ledgers.{line-there}
+use Rattle.ledger.proofs.Ledgers.{line-there}
 
 module _ (E : ℕ) (e : E ≤ mostEntities) (book : Book) (index : List ℕ) (lines : List Line) (ledger : Ledger book index lines)
     (ws : List ℕ) (backed : Backed ws index) where

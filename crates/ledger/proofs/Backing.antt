@@ -12,8 +12,8 @@ use Rattle.rt0.specs.Book.{Book}
 use Rattle.rt0.proofs.Bits.{bit-or}
 use Rattle.words.specs.Sizes.{mostEntities}
 use Rattle.premises.specs.Fact.{HasLine, Backed}
-use Rattle.search.specs.Ledger.{Extended}
-use Rattle.search.specs.Writing.{AllStated}
+use Rattle.ledger.specs.Ledger.{Extended}
+use Rattle.ledger.specs.Writing.{AllStated}
 
 module _ (said : List ℕ) (at given : ℕ) where
   -- the words with a word of given members more

@@ -32,19 +32,19 @@ use Rattle.words.proofs.Stepped.{step-place, step-gives}
 use Rattle.words.proofs.Wider.{role-wider, valid-wider}
 use Rattle.words.proofs.Given.{place-valid, head-valid as place-of-head, give-valid}
 use Rattle.tables.proofs.Held.{HeldRecord, held-entities, held-valid, held-record, held-place}
-use Rattle.search.specs.declared.slip.Given.{Given}
+use Rattle.ledger.specs.declared.Given.{Given}
 use Rattle.premises.specs.declared.premise.Premises.{Premises}
 use Rattle.premises.specs.Fact.{factNumber, HasLine, Backed}
 use Rattle.premises.specs.Line.{lineBy, withLine, WroteLine}
 use Rattle.premises.specs.Premise.{PremisesFor, premisesBy}
 use Rattle.premises.proofs.LineBytes.{wrote-line}
 use Rattle.premises.proofs.Premises.{premises-found}
-use Rattle.search.specs.Ledger.{Ledger, Extended}
-use Rattle.search.specs.Writing.{Writing, IsRecord, HasSteps, IsGiven, AtMostOneMore}
+use Rattle.ledger.specs.Ledger.{Ledger, Extended}
+use Rattle.ledger.specs.Writing.{Writing, IsRecord, HasSteps, IsGiven, AtMostOneMore}
 use Rattle.premises.proofs.Facts.{number-member, number-within, number-fact}
-use Rattle.search.proofs.Ledgers.{ledger-snoc, ledger-once}
-use Rattle.search.proofs.Following.{premises-follow}
-use Rattle.search.proofs.Steps.{OneMore, one-at-most, bit-one}
+use Rattle.ledger.proofs.Ledgers.{ledger-snoc, ledger-once}
+use Rattle.ledger.proofs.Following.{premises-follow}
+use Rattle.ledger.proofs.Steps.{OneMore, one-at-most, bit-one}
 
 -- an entry that is set stays one, and the others stay
 entry-kept : (index : List ℕ) (f v g : ℕ) → f < length index → (v ≡ 0 → ⊥) → HasLine index g → HasLine (set index f v) g

@@ -14,9 +14,9 @@ use Rattle.rt0.specs.Word.{bit}
 use Rattle.rt0.proofs.Bits.{bit-cases}
 use Rattle.words.specs.Sizes.{tableWords}
 use Rattle.premises.specs.Fact.{HasLine, Backed}
-use Rattle.search.specs.Ledger.{Ledger, Extended}
+use Rattle.ledger.specs.Ledger.{Ledger, Extended}
 use Rattle.bundle.specs.Held.{bookIn}
-use Rattle.search.specs.Writing.{Writing, NoneOrLast, AtMostOneMore, Unsaid, Progress, AllStated}
+use Rattle.ledger.specs.Writing.{Writing, NoneOrLast, AtMostOneMore, Unsaid, Progress, AllStated}
 use Rattle.tables.proofs.Comparing.{drop-later}
 
 -- ---- none, and two

@@ -18,7 +18,7 @@ use Rattle.rt0.proofs.Least.{member-within}
 use Rattle.rt0.proofs.Slips.{line-sound, right-snoc}
 use Rattle.words.specs.Sizes.{mostEntities, width, factCount}
 use Rattle.premises.specs.Fact.{fact, factNumber, lineOf, HasLine, Backed}
-use Rattle.search.specs.Ledger.{Ledger}
+use Rattle.ledger.specs.Ledger.{Ledger}
 use Rattle.words.proofs.Wider.{role-wider}
 use Rattle.premises.proofs.Facts.{number-within, number-fact, number-holds, fact-injective}
 
