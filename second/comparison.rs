@@ -43,6 +43,9 @@ pub trait Exchange: Sized + 'static {
     /// The expected outcome in words, and its place.
     fn outcome(&self, expected: &Self::Came) -> (String, usize);
 
+    /// What the case shows besides, in words: editions, and names above 16.
+    fn also(&self, expected: &Self::Came) -> Vec<String>;
+
     /// The case in words: the call first, then what is handed over.
     fn describe(&self) -> String;
 
@@ -65,23 +68,32 @@ struct Disagreement<C> {
     difference: String,
 }
 
-/// How often each outcome was expected, and at how many places.
+/// How often each outcome was expected, and at how many places, and how often
+/// the cases show what they show besides.
 #[derive(Default)]
 struct Outcomes {
     seen: BTreeMap<String, (usize, BTreeSet<usize>)>,
+    also: BTreeMap<String, usize>,
 }
 
 impl Outcomes {
-    fn note(&mut self, (outcome, place): (String, usize)) {
+    fn note<C: Exchange>(&mut self, case: &C, expected: &C::Came) {
+        let (outcome, place) = case.outcome(expected);
         let (count, places) = self.seen.entry(outcome).or_default();
         *count += 1;
         places.insert(place);
+        for words in case.also(expected) {
+            *self.also.entry(words).or_default() += 1;
+        }
     }
 
     fn print(&self) {
         for (outcome, (count, places)) in &self.seen {
             let different = places.len();
             println!("outcome: {outcome}: {count} cases, different places: {different}");
+        }
+        for (words, count) in &self.also {
+            println!("also: {words}: {count} cases");
         }
     }
 }
@@ -112,7 +124,7 @@ pub fn compare<C: Exchange>(cases_path: &str, answers_path: &str) -> io::Result<
         };
         counts[usize::from(case.group())] += 1;
         let expected = case.own_answer();
-        outcomes.note(case.outcome(&expected));
+        outcomes.note(&case, &expected);
         if let Err(difference) = case.agree(&expected, &came) {
             disagreements.push(Disagreement {
                 number,

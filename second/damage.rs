@@ -1,10 +1,11 @@
-//! Damaged bundles: one function for each of the refusals 1 to 5, and two for
-//! wrong records, with one mistake or with several.
+//! Damaged bundles: one function for each of the refusals 1 to 5, one for the
+//! edition, and two for wrong records, with one mistake or with several.
 //!
 //! A function gets a turn number and goes through its list of damages by it,
 //! so that enough turns try every one. Whether the outcome is refused at all
 //! is not decided here: the reader says what is expected of each case.
 
+use crate::edition::{edition_of, NAMES_OF_EDITION_1};
 use crate::house::one;
 use crate::mistake::{
     BYTE_NOT_ZERO, ENTITY_OUT_OF_RANGE, LAYOUTS, NAME_OUT_OF_RANGE, NUMBER_OF_PARTS, UNKNOWN_FORM,
@@ -12,7 +13,7 @@ use crate::mistake::{
 use crate::random::Random;
 use crate::reader::{
     record_start, BLOCK, BLOCK_NUMBER_PLACE, CHECK_MODULUS, CHECK_PLACE, LONGEST_BUNDLE,
-    MOST_ENTITIES, RECORD, RECORDS_END, RECORDS_IN_BLOCK, RECORD_COUNT_PLACE,
+    MOST_ENTITIES, MOST_NAMES, RECORD, RECORDS_END, RECORDS_IN_BLOCK, RECORD_COUNT_PLACE,
 };
 use crate::shape::{
     random_intersection, random_record, random_role, record_block, seal, seal_all, sized, Draft,
@@ -121,7 +122,7 @@ fn check_not_reduced() -> Vec<u8> {
 /// A bundle whose block 0 breaks its layout in one byte.
 pub fn damage_first_block(random: &mut Random, turn: usize, draft: &Draft) -> Vec<u8> {
     let mut bytes = draft.bytes();
-    let ways = first_block_ways(random, draft.entities);
+    let ways = first_block_ways(random, draft);
     let (place, value) = ways[turn % ways.len()];
     bytes[place] = value;
     seal_mostly(random, &mut bytes);
@@ -129,7 +130,10 @@ pub fn damage_first_block(random: &mut Random, turn: usize, draft: &Draft) -> Ve
 }
 
 /// Places and values that break the layout of block 0.
-fn first_block_ways(random: &mut Random, entities: u8) -> Vec<(usize, u8)> {
+fn first_block_ways(random: &mut Random, draft: &Draft) -> Vec<(usize, u8)> {
+    let Draft {
+        entities, names, ..
+    } = *draft;
     let last_mark = 3 + usize::from(entities);
     let some_mark = 3 + usize::from(random.number(entities));
     let mut ways = vec![
@@ -143,14 +147,49 @@ fn first_block_ways(random: &mut Random, entities: u8) -> Vec<(usize, u8)> {
         (some_mark, 3),
         (some_mark, 255),
     ];
-    ways.extend([(0, 0), (0, 2), (0, 255), (1, 0), (1, 33), (1, 255)]);
-    ways.extend([(2, 0), (2, 17), (2, 255), (3, 241), (3, 242), (3, 255)]);
+    ways.extend([(0, 0), (0, other_edition(names)), (0, 3), (0, 255)]);
+    ways.extend([(1, 0), (1, 33), (1, 255)]);
+    ways.extend([(2, 0), (2, names_across(random, names)), (2, 33), (2, 255)]);
+    ways.extend([(3, 241), (3, 242), (3, 255)]);
     ways.extend([4, 35, 36, 37, 38, 300, 508, 509].map(|place| (place, 3)));
     if entities < MOST_ENTITIES {
         ways.push((random.between(last_mark + 1, 35), 1));
     }
     ways.push((random.between(36, 509), random.number(255)));
     ways
+}
+
+/// The edition that so many names don't have.
+fn other_edition(names: u8) -> u8 {
+    3 - edition_of(names)
+}
+
+/// A number of names, at times the nearest, whose edition is the other one.
+fn names_across(random: &mut Random, names: u8) -> u8 {
+    let few = random.number(NAMES_OF_EDITION_1);
+    let many = NAMES_OF_EDITION_1 + random.number(MOST_NAMES - NAMES_OF_EDITION_1);
+    match edition_of(names) {
+        1 => random.pick(&[NAMES_OF_EDITION_1 + 1, MOST_NAMES, many]),
+        _ => random.pick(&[NAMES_OF_EDITION_1, 1, few]),
+    }
+}
+
+/// A bundle with another edition than its number of names has, with another
+/// number of names than its edition allows, or with both, so that they fit
+/// again.
+pub fn damage_edition(random: &mut Random, turn: usize, draft: &Draft) -> Vec<u8> {
+    let mut bytes = draft.bytes();
+    let other = other_edition(draft.names);
+    let across = names_across(random, draft.names);
+    match turn % 8 {
+        0..=2 => bytes[0] = other,
+        3 | 4 => bytes[2] = across,
+        5 => bytes[..3].copy_from_slice(&[other, draft.entities, across]),
+        6 => bytes[0] = random.pick(&[0, 3, 255]),
+        _ => bytes[0] = random.byte(),
+    }
+    seal_mostly(random, &mut bytes);
+    bytes
 }
 
 /// A bundle whose number of blocks doesn't fit its number of records.
@@ -397,13 +436,14 @@ fn restore_check(bytes: &mut [u8], sound: &[u8], number: usize) {
 /// Any one of the damages above.
 pub fn damage_somehow(random: &mut Random, draft: &Draft) -> Vec<u8> {
     let turn = random.below(10_000);
-    match random.below(7) {
+    match random.below(8) {
         0 => damage_length(random, turn, draft),
         1 => damage_check(random, turn, draft),
         2 => damage_first_block(random, turn, draft),
         3 => damage_number_of_blocks(random, turn, draft),
         4 => damage_block_end(random, turn, draft),
         5 => damage_record(random, turn, draft),
+        6 => damage_edition(random, turn, draft),
         _ => damage_records(random, turn, draft),
     }
 }

@@ -17,6 +17,8 @@ pub const HEAD: usize = 2 + MARKS;
 pub const BUNDLE_FROM_LINES: Program = Program {
     name: "bundle_from_lines",
     longest_input: HEAD + LONGEST_TEXT,
+    bundle_at: None,
+    name_at: None,
     prints: |input| printed(bundle_from_lines(input)),
 };
 
@@ -24,6 +26,8 @@ pub const BUNDLE_FROM_LINES: Program = Program {
 pub const LINES_FROM_BUNDLE: Program = Program {
     name: "lines_from_bundle",
     longest_input: LONGEST_BUNDLE,
+    bundle_at: Some(0),
+    name_at: None,
     prints: |input| printed(lines_from_bundle(input)),
 };
 

@@ -3,7 +3,7 @@
 //! bundles of the search.
 
 use crate::desk::{BUNDLE_FROM_LINES, HEAD, LINES_FROM_BUNDLE};
-use crate::draw;
+use crate::draw::{drawn_from, DAMAGED_BUNDLES, VALID_BUNDLES};
 use crate::groups::{draw_case, group, Group};
 use crate::program::Program;
 use crate::program_exchange::{ProgramCase, ProgramSet};
@@ -14,7 +14,6 @@ use crate::text_draw::{READS, TEXT_GROUPS};
 use crate::text_flaws::{flawed_line, FLAWS};
 use crate::writer::{Content, MARKS};
 use crate::writer_draw::{content_of, draft_with, spoil_marks, spoil_sizes, FITTING};
-use std::ops::Range;
 
 /// The two programs for the desk.
 pub struct Desk;
@@ -131,19 +130,12 @@ fn short_heads(random: &mut Random, turn: usize) -> DeskCase {
     ProgramCase::new(FROM_LINES, input)
 }
 
-/// A bundle from some groups of the search's cases, drawn from all over them.
-fn of_the_search(random: &mut Random, groups: Range<usize>) -> DeskCase {
-    let number = random.below(100_000);
-    let (_, case) = draw_case(&draw::GROUPS[groups], random.next(), number);
-    ProgramCase::new(FROM_BUNDLE, case.bundle)
-}
-
 fn valid_bundles(random: &mut Random, _turn: usize) -> DeskCase {
-    of_the_search(random, draw::VALID_BUNDLES)
+    ProgramCase::new(FROM_BUNDLE, drawn_from(random, VALID_BUNDLES).bundle)
 }
 
 fn damaged_bundles(random: &mut Random, _turn: usize) -> DeskCase {
-    of_the_search(random, draw::DAMAGED_BUNDLES)
+    ProgramCase::new(FROM_BUNDLE, drawn_from(random, DAMAGED_BUNDLES).bundle)
 }
 
 fn random_bytes(random: &mut Random, turn: usize) -> DeskCase {

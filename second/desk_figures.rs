@@ -59,7 +59,7 @@ fn try_refusals(tally: &mut Tally) {
         ("no marks", &head[..2], "", 3, 0),
         ("31 marks", &head[..HEAD - 1], "", 3, 0),
         ("E is 0", &head_of(0, 1), right, 3, 0),
-        ("R is 17", &head_of(1, 17), right, 3, 0),
+        ("R is 33", &head_of(1, 33), right, 3, 0),
         ("a wrong mark and a wrong line", &wrong_mark, "e1", 3, 0),
         ("no last newline", &head, HOUSE_TEXT.trim_end(), 14, 6),
         ("241 lines", &head, &right.repeat(241), 12, 241),

@@ -3,17 +3,17 @@
 use crate::damage;
 use crate::exchange::{Case, Task};
 use crate::forge::{self, Ground};
-use crate::groups::{group, Group};
+use crate::groups::{draw_case, group, Group};
 use crate::house;
 use crate::membership::{fact, possible_table, sure_walk, Fact};
 use crate::random::Random;
-use crate::reader::{read_bundle, Bundle};
+use crate::reader::{read_bundle, Bundle, MOST_NAMES};
 use crate::service::{Lent, Question};
 use crate::shape::{self, Draft};
 use crate::slip::{bytes_of, lines_of, Line};
 use std::ops::Range;
 
-pub const GROUPS: [Group<Case>; 36] = [
+pub const GROUPS: [Group<Case>; 37] = [
     group("small-bundles", 4, small_bundles),
     group("grown-bundles", 4, grown_bundles),
     group("every-number-of-records", 4, every_number_of_records),
@@ -28,6 +28,7 @@ pub const GROUPS: [Group<Case>; 36] = [
     group("bad-lengths", 2, bad_lengths),
     group("wrong-checks", 6, wrong_checks),
     group("first-block", 3, first_block),
+    group("editions", 6, editions),
     group("number-of-blocks", 2, number_of_blocks),
     group("block-ends", 3, block_ends),
     group("wrong-records", 19, wrong_records),
@@ -55,14 +56,20 @@ pub const GROUPS: [Group<Case>; 36] = [
 /// The places of the groups over valid bundles, and of those over damaged ones
 /// or with a question or memory that is refused.
 pub const VALID_BUNDLES: Range<usize> = 0..11;
-pub const DAMAGED_BUNDLES: Range<usize> = 11..21;
+pub const DAMAGED_BUNDLES: Range<usize> = 11..22;
+
+/// A case from some of the groups, drawn from all over them.
+pub fn drawn_from(random: &mut Random, groups: Range<usize>) -> Case {
+    let number = random.below(100_000);
+    draw_case(&GROUPS[groups], random.next(), number).1
+}
 
 /// Lent memory that is long enough, at times longer than needed.
 pub fn enough_lent(random: &mut Random) -> Lent {
     let mut lent = Lent::enough();
     if random.once_in(4) {
-        lent.sure_words = random.pick(&[512, 513, 600]);
-        lent.possible_words = random.pick(&[512, 513, 600]);
+        lent.sure_words = random.pick(&[1_024, 1_025, 1_200]);
+        lent.possible_words = random.pick(&[1_024, 1_025, 1_200]);
         lent.slip_bytes = random.pick(&[61_440, 61_441, 61_500]);
     }
     lent
@@ -98,8 +105,9 @@ pub fn any_question(random: &mut Random, draft: &Draft) -> Question {
     Question::about((role.entity, role.name, random.number(draft.entities)))
 }
 
-/// A search over a valid bundle.
-fn valid_search(random: &mut Random, draft: &Draft) -> Case {
+/// A search over a valid bundle, in which the names may have other numbers.
+fn valid_search(random: &mut Random, mut draft: Draft) -> Case {
+    shape::spread_names(random, &mut draft);
     let bytes = draft.bytes();
     let bundle = read_bundle(&bytes).expect("the shapes draw valid bundles");
     let question = telling_question(random, &bundle);
@@ -136,7 +144,7 @@ fn sound_draft(random: &mut Random) -> Draft {
 fn small_bundles(random: &mut Random, _turn: usize) -> Case {
     let mut draft = shape::small(random);
     shape::mark_absent(random, &mut draft);
-    valid_search(random, &draft)
+    valid_search(random, draft)
 }
 
 fn grown_bundles(random: &mut Random, turn: usize) -> Case {
@@ -144,7 +152,7 @@ fn grown_bundles(random: &mut Random, turn: usize) -> Case {
     if turn % 3 == 0 {
         shape::mark_absent(random, &mut draft);
     }
-    valid_search(random, &draft)
+    valid_search(random, draft)
 }
 
 fn every_number_of_records(random: &mut Random, turn: usize) -> Case {
@@ -153,7 +161,7 @@ fn every_number_of_records(random: &mut Random, turn: usize) -> Case {
     if random.once_in(2) {
         shape::mark_absent(random, &mut draft);
     }
-    valid_search(random, &draft)
+    valid_search(random, draft)
 }
 
 fn one_form_alone(random: &mut Random, turn: usize) -> Case {
@@ -161,7 +169,7 @@ fn one_form_alone(random: &mut Random, turn: usize) -> Case {
     if random.once_in(2) {
         shape::mark_absent(random, &mut draft);
     }
-    valid_search(random, &draft)
+    valid_search(random, draft)
 }
 
 fn chains(random: &mut Random, _turn: usize) -> Case {
@@ -169,7 +177,7 @@ fn chains(random: &mut Random, _turn: usize) -> Case {
     if random.once_in(2) {
         shape::mark_absent(random, &mut draft);
     }
-    valid_search(random, &draft)
+    valid_search(random, draft)
 }
 
 fn dense_links(random: &mut Random, turn: usize) -> Case {
@@ -185,7 +193,7 @@ fn dense_links(random: &mut Random, turn: usize) -> Case {
     if random.once_in(2) {
         shape::mark_absent(random, &mut draft);
     }
-    valid_search(random, &draft)
+    valid_search(random, draft)
 }
 
 fn intersections(random: &mut Random, _turn: usize) -> Case {
@@ -193,7 +201,7 @@ fn intersections(random: &mut Random, _turn: usize) -> Case {
     if random.once_in(2) {
         shape::mark_absent(random, &mut draft);
     }
-    valid_search(random, &draft)
+    valid_search(random, draft)
 }
 
 fn repeated_records(random: &mut Random, _turn: usize) -> Case {
@@ -201,21 +209,24 @@ fn repeated_records(random: &mut Random, _turn: usize) -> Case {
     if random.once_in(3) {
         shape::mark_absent(random, &mut draft);
     }
-    valid_search(random, &draft)
+    valid_search(random, draft)
 }
 
 /// Long walks. The very longest comes only once in many turns, and then the
 /// question is the fact that comes in last.
 fn long_walks(random: &mut Random, turn: usize) -> Case {
     if turn % 10 == 5 {
-        let last = Question::about((1, 2, 32));
-        return Case::search(last, house::longest_walk().bytes(), Lent::enough());
+        let (draft, last) = match turn / 10 % 2 {
+            0 => (house::longest_walk(), (1, 2, 32)),
+            _ => (house::widest_walk(), (1, 31, 32)),
+        };
+        return Case::search(Question::about(last), draft.bytes(), Lent::enough());
     }
     let mut draft = shape::some_long_walk(random);
     if random.once_in(6) {
         shape::mark_absent(random, &mut draft);
     }
-    valid_search(random, &draft)
+    valid_search(random, draft)
 }
 
 fn absent_shelves(random: &mut Random, turn: usize) -> Case {
@@ -228,9 +239,9 @@ fn absent_shelves(random: &mut Random, turn: usize) -> Case {
     };
     shape::mark_absent(random, &mut draft);
     if turn % 16 == 0 {
-        draft = house::all_absent();
+        draft = house::all_absent(random.pick(&[16, 17, MOST_NAMES]));
     }
-    valid_search(random, &draft)
+    valid_search(random, draft)
 }
 
 fn small_house(random: &mut Random, turn: usize) -> Case {
@@ -256,7 +267,7 @@ fn small_house(random: &mut Random, turn: usize) -> Case {
             Lent::enough(),
         );
     }
-    valid_search(random, &draft)
+    valid_search(random, draft)
 }
 
 fn bad_lengths(random: &mut Random, turn: usize) -> Case {
@@ -277,6 +288,13 @@ fn wrong_checks(random: &mut Random, turn: usize) -> Case {
 fn first_block(random: &mut Random, turn: usize) -> Case {
     let draft = sound_draft(random);
     let bytes = damage::damage_first_block(random, turn, &draft);
+    damaged_case(random, &draft, bytes)
+}
+
+/// Editions that don't fit the number of names, and some that do.
+fn editions(random: &mut Random, turn: usize) -> Case {
+    let draft = sound_draft(random);
+    let bytes = damage::damage_edition(random, turn, &draft);
     damaged_case(random, &draft, bytes)
 }
 
@@ -333,15 +351,15 @@ pub fn spoil_question(turn: usize, draft: &Draft, question: &mut Question) {
 
 /// Every pairing of telling lengths in turn.
 fn lent_lengths(random: &mut Random, turn: usize) -> Case {
-    const WORDS: [usize; 5] = [0, 511, 512, 513, 600];
+    const WORDS: [usize; 6] = [0, 512, 1_023, 1_024, 1_025, 1_200];
     const BYTES: [usize; 4] = [0, 61_439, 61_440, 61_500];
     let mut draft = shape::small(random);
     shape::mark_absent(random, &mut draft);
-    let mut case = valid_search(random, &draft);
+    let mut case = valid_search(random, draft);
     let lent = Lent {
-        sure_words: WORDS[turn % 5],
-        possible_words: WORDS[turn / 5 % 5],
-        slip_bytes: BYTES[turn / 25 % 4],
+        sure_words: WORDS[turn % 6],
+        possible_words: WORDS[turn / 6 % 6],
+        slip_bytes: BYTES[turn / 36 % 4],
     };
     case.task = Task::Search(lent);
     case
@@ -365,8 +383,8 @@ fn several_faults(random: &mut Random, turn: usize) -> Case {
         return Case::check(question, bytes, slip.to_vec());
     }
     let lent = Lent {
-        sure_words: random.pick(&[0, 511, 512]),
-        possible_words: random.pick(&[511, 512]),
+        sure_words: random.pick(&[0, 1_023, 1_024]),
+        possible_words: random.pick(&[1_023, 1_024]),
         slip_bytes: random.pick(&[0, 61_439, 61_440]),
     };
     Case::search(question, bytes, lent)
@@ -442,7 +460,8 @@ fn last_line_check(ground: &Ground, lines: &[Line]) -> Case {
 /// the line that the turn asks for, so several are tried.
 fn near_misses(random: &mut Random, turn: usize) -> Case {
     loop {
-        let draft = shape::busy(random);
+        let mut draft = shape::busy(random);
+        shape::spread_names(random, &mut draft);
         let ground = Ground::with_member(random, draft);
         if let Some(lines) = forge::near_miss(random, turn, &ground) {
             return last_line_check(&ground, &lines);

@@ -12,6 +12,7 @@
 
 use crate::comparison::first_byte;
 use crate::membership::Table;
+use crate::reader::MOST_NAMES;
 use crate::service::{check, search, Lent, Outcome, Question, TABLE_WORDS};
 use std::io::{self, Read, Write};
 
@@ -207,14 +208,15 @@ fn read_words(file: &mut impl Read, count: usize) -> io::Result<Vec<u32>> {
 }
 
 /// A lent table after the call: as filled after a refusal, else with the
-/// table in its first 512 words.
+/// table in its first 1,024 words, 32 for the names of each entity, whatever
+/// the edition of the bundle.
 pub fn lent_table(table: Option<&Table>, words: usize) -> Vec<u32> {
     let mut lent = vec![FILL_WORD; words];
     if let Some(facts) = table {
         lent[..TABLE_WORDS].fill(0);
         for (entity, name, member) in facts {
-            let place = 16 * (usize::from(*entity) - 1) + usize::from(*name) - 1;
-            lent[place] |= 1 << (member - 1);
+            let before = usize::from(MOST_NAMES) * (usize::from(*entity) - 1);
+            lent[before + usize::from(*name) - 1] |= 1 << (member - 1);
         }
     }
     lent

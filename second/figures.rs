@@ -3,11 +3,12 @@
 
 use crate::damage::{chosen_mistakes, mistaken_record};
 use crate::desk_figures::try_desk;
+use crate::edition_figures::try_editions;
 use crate::forge::{self, Ground};
 use crate::holder_figures::try_holders;
 use crate::house::{
     full, house, house_slip, house_without_5, longest_chain, longest_walk, one, over,
-    self_contained, signer_question, GUILD, NINA, TOMAS, UPLAND,
+    self_contained, signer_question, widest_walk, GUILD, NINA, TOMAS, UPLAND,
 };
 use crate::list_figures::try_lists;
 use crate::membership::{possible_table, sure_walk, walk_by_definition, Table};
@@ -61,6 +62,7 @@ pub fn try_figures() -> bool {
     try_desk(&mut tally);
     try_holders(&mut tally);
     try_with_sheet(&mut tally);
+    try_editions(&mut tally);
     for seed in 0..400 {
         try_mistaken_records(&mut tally, seed);
         try_membership(&mut tally, seed);
@@ -173,15 +175,18 @@ fn try_house_slip(tally: &mut Tally) {
 }
 
 fn try_walks(tally: &mut Tally) {
-    let chain = read_draft(&longest_chain());
-    tally.expect("rounds of the chain", 240, sure_walk(&chain).rounds);
-    let bundle = read_draft(&longest_walk());
-    let walk = sure_walk(&bundle);
-    tally.expect("rounds of the long walk", 32 * 208, walk.rounds);
-    let goal = (1, 2, 32);
-    let slip = write_slip(&walk, goal);
-    let stated = check_slip(&bundle, goal, &slip).map(|facts| facts.len());
-    tally.expect("lines of the long walk", Ok(32 * 208 + 31), stated);
+    for names in [16, 32] {
+        let chain = read_draft(&longest_chain(names));
+        tally.expect("rounds of the chain", 240, sure_walk(&chain).rounds);
+    }
+    for (draft, goal) in [(longest_walk(), (1, 2, 32)), (widest_walk(), (1, 31, 32))] {
+        let bundle = read_draft(&draft);
+        let walk = sure_walk(&bundle);
+        tally.expect("rounds of the long walk", 32 * 208, walk.rounds);
+        let slip = write_slip(&walk, goal);
+        let stated = check_slip(&bundle, goal, &slip).map(|facts| facts.len());
+        tally.expect("lines of the long walk", Ok(32 * 208 + 31), stated);
+    }
 }
 
 /// Records over 6 entities and 4 names, trailing zeros left off, and what is

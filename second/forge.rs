@@ -3,14 +3,14 @@
 //! Every slip starts from ground: a valid bundle, what holds in it, and a
 //! fact that the slip is about.
 
-use crate::house::{house, longest_walk};
+use crate::house::{house, longest_walk, widest_walk};
 use crate::membership::{sure_walk, Fact, Walk};
 use crate::random::Random;
 use crate::reader::{read_bundle, Body, Bundle, Role};
 use crate::shape::{
     chain, contained_record, dense_links, grown, intersection_record, intersections, linked_record,
-    mark_absent, member_record, random_role, repeated_records, small, some_long_walk, Draft,
-    Record,
+    mark_absent, member_record, random_role, repeated_records, small, some_long_walk, spread_names,
+    Draft, Record,
 };
 use crate::slip::{
     bytes_of, check_lines, line_fact, lines_of, write_every_fact, write_slip, Line, LINE,
@@ -55,6 +55,7 @@ impl Ground {
             _ => house(&[]),
         };
         mark_absent(random, &mut draft);
+        spread_names(random, &mut draft);
         Ground::with_member(random, draft)
     }
 
@@ -353,7 +354,7 @@ fn differs_only_in(one: Fact, other: Fact, number: usize) -> bool {
 /// A bundle and lines that lean on themselves: every line would be right if a
 /// premise could name its own line or a later one.
 pub fn circle(random: &mut Random, turn: usize) -> (Draft, Vec<Line>) {
-    let mut draft = Draft::new(random.between(2, 6) as u8, random.between(2, 6) as u8);
+    let mut draft = Draft::new(random.between(2, 6) as u8, random.between(2, 32) as u8);
     let role = random_role(random, &draft);
     let other = Role::new(random.number(draft.entities), role.name % draft.names + 1);
     let member = random.number(draft.entities);
@@ -477,5 +478,6 @@ fn rest_on_late_lines(random: &mut Random, lines: &mut [Line]) {
 
 /// The ground of the longest walk; its slips have several thousand lines.
 pub fn longest_ground(random: &mut Random) -> Ground {
-    Ground::of(random, longest_walk())
+    let draft = random.pick(&[longest_walk, widest_walk])();
+    Ground::of(random, draft)
 }

@@ -3,7 +3,7 @@
 //! number, one or several of them.
 
 use crate::draw;
-use crate::groups::{draw_case, group, Group};
+use crate::groups::{group, Group};
 use crate::holder_exchange::HolderCase;
 use crate::house;
 use crate::random::Random;
@@ -54,19 +54,21 @@ fn mixed(random: &mut Random, names: u8) -> Draft {
     draft
 }
 
-/// The six codes stand on six names in an order drawn by lot. The turn says
-/// the form, the code of the head and two codes of the body; it goes through
-/// the 216 choices in steps of 37, so that few turns are well spread. A third
-/// part has any code.
+/// The six codes stand on up to 32 names in an order drawn by lot. The turn
+/// says the form, the code of the head and two codes of the body; it goes
+/// through the 216 choices in steps of 37, so that few turns are well spread.
+/// A third part has any code.
 fn every_code_on_every_form(random: &mut Random, turn: usize) -> HolderCase {
-    let mut codes = [1, 2, 3, 4, 5, 6];
+    let count = random.pick(&[MOST_CODES, 16, 17, MOST_NAMES]);
+    let mut codes: Vec<u8> = (0..count).map(|name| name % MOST_CODES + 1).collect();
     random.shuffle(&mut codes);
-    let mut draft = Draft::new(random.number(MOST_ENTITIES), MOST_CODES);
+    let mut draft = Draft::new(random.number(MOST_ENTITIES), count);
     let choice = turn / 5 * 37 % 216;
     let turns = [choice, choice / 6, choice / 36, random.below(6)];
     let names = turns.map(|turn| {
-        let code = (turn % 6) as u8 + 1;
-        1 + codes.iter().position(|there| *there == code).unwrap_or(0) as u8
+        let with_code = (1..=count).zip(&codes);
+        let with_code = with_code.filter(|(_, code)| usize::from(**code) == turn % 6 + 1);
+        random.pick(&with_code.map(|(name, _)| name).collect::<Vec<u8>>())
     });
     let asked = record_over(random, &draft, turn % 5, names);
     let others = random.below(3);
@@ -90,15 +92,8 @@ fn record_over(random: &mut Random, draft: &Draft, shape: usize, names: [u8; 4])
     }
 }
 
-/// A bundle from some groups of the search's cases, drawn from all over them.
-pub fn of_the_search(random: &mut Random, groups: Range<usize>) -> Vec<u8> {
-    let number = random.below(100_000);
-    let (_, case) = draw_case(&draw::GROUPS[groups], random.next(), number);
-    case.bundle
-}
-
 fn valid_bundles(random: &mut Random, _turn: usize) -> HolderCase {
-    let bundle = of_the_search(random, draw::VALID_BUNDLES);
+    let bundle = draw::drawn_from(random, draw::VALID_BUNDLES).bundle;
     let sheet = some_sheet(random, bundle[2]);
     let records = usize::from(bundle[3]).max(1);
     let record = random.between(1, records) as u8;
@@ -129,7 +124,8 @@ fn well_typed_bundles(random: &mut Random, _turn: usize) -> HolderCase {
 
 /// Well typed records, under a sheet in which one name has another code.
 fn one_code_changed(random: &mut Random, turn: usize) -> HolderCase {
-    let names = random.number(6);
+    let most = random.pick(&[6, 6, MOST_NAMES]);
+    let names = random.number(most);
     let mut codes = some_codes(random, names);
     let draft = well_typed(random, &codes);
     codes[random.below(usize::from(names))] = turn as u8 % MOST_CODES + 1;
@@ -145,7 +141,7 @@ fn small_house(random: &mut Random, turn: usize) -> HolderCase {
 }
 
 fn wrong_sheets(random: &mut Random, turn: usize) -> HolderCase {
-    let names = random.pick(&[1, 2, 6, 15, MOST_NAMES]);
+    let names = random.pick(&[1, 2, 6, 15, 16, 17, MOST_NAMES - 1, MOST_NAMES]);
     let draft = mixed(random, names);
     let codes = some_codes(random, names);
     let sheet = damage_sheet(random, turn, &codes);
@@ -174,14 +170,14 @@ fn random_sheets(random: &mut Random, turn: usize) -> HolderCase {
 
 /// Damaged bundles, with the sheet that would fit.
 fn damaged_bundles(random: &mut Random, _turn: usize) -> HolderCase {
-    let bundle = of_the_search(random, draw::DAMAGED_BUNDLES);
+    let bundle = draw::drawn_from(random, draw::DAMAGED_BUNDLES).bundle;
     let names = bundle.get(2).copied().unwrap_or(1);
     let sheet = some_sheet(random, names.clamp(1, MOST_NAMES));
     HolderCase::new(bundle, sheet, random.number(40))
 }
 
 fn records_out_of_range(random: &mut Random, turn: usize) -> HolderCase {
-    let names = random.number(6);
+    let names = random.number(MOST_NAMES);
     let draft = mixed(random, names);
     let sheet = some_sheet(random, names);
     let mut case = about_some_record(random, &draft, sheet);

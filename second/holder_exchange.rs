@@ -7,6 +7,7 @@
 //! An answer is eight bytes with the result, low byte first.
 
 use crate::comparison::{hex, Exchange};
+use crate::edition::shown_by;
 use crate::exchange::{read_bytes, Head};
 use crate::groups::Group;
 use crate::holder_draw::HOLDER_GROUPS;
@@ -107,6 +108,10 @@ impl Exchange for HolderCase {
         let form = self.bundle[record_start(usize::from(self.record))];
         let typed = ["ill", "well"][usize::from(expected >> 32 & 1 == 1)];
         (format!("form {form} {typed}"), *expected as u32 as usize)
+    }
+
+    fn also(&self, _expected: &u64) -> Vec<String> {
+        shown_by(&self.bundle).into_iter().collect()
     }
 
     fn describe(&self) -> String {

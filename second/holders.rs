@@ -17,6 +17,8 @@ pub type Holders = Option<BTreeSet<u8>>;
 pub const HOLDERS: Program = Program {
     name: "holders",
     longest_input: BLOCK + LONGEST_BUNDLE,
+    bundle_at: Some(BLOCK),
+    name_at: None,
     prints: |input| printed(holders_of_all(input)),
 };
 

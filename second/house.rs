@@ -1,12 +1,13 @@
 //! The bundles with names: the small house, its variants, and the bundles at
 //! the edges of what the format allows.
 
+use crate::edition::NAMES_OF_EDITION_1;
 use crate::random::Random;
 use crate::reader::{Role, MOST_CREDENTIALS, MOST_ENTITIES, MOST_NAMES};
 use crate::service::Question;
 use crate::shape::{
     add_records, chain_records, contained_record, dense_links, intersection_record, linked_record,
-    long_walk, member_record, seal, Draft, Record,
+    long_walk, member_record, seal, walk_records, Draft, Record,
 };
 use crate::slip::{bytes_of, Line};
 use std::fs;
@@ -98,29 +99,50 @@ pub fn over() -> Vec<u8> {
     bytes
 }
 
-/// The most entities and names, every shelf absent and no records.
-pub fn all_absent() -> Draft {
-    let mut draft = Draft::new(MOST_ENTITIES, MOST_NAMES);
+/// The most entities, so many names, every shelf absent and no records.
+pub fn all_absent(names: u8) -> Draft {
+    let mut draft = Draft::new(MOST_ENTITIES, names);
     draft.absent = (1..=MOST_ENTITIES).collect();
     draft
 }
 
-/// One member and 239 roles, each containing the one before.
-pub fn longest_chain() -> Draft {
-    let mut draft = Draft::new(MOST_ENTITIES, MOST_NAMES);
+/// One member and 239 roles over so many names, each containing the one
+/// before.
+pub fn longest_chain(names: u8) -> Draft {
+    let mut draft = Draft::new(MOST_ENTITIES, names);
     let numbers = 0..MOST_CREDENTIALS;
     let roles: Vec<Role> = numbers
-        .map(|number| Role::new(number / MOST_NAMES + 1, number % MOST_NAMES + 1))
+        .map(|number| Role::new(number / names + 1, number % names + 1))
         .collect();
     draft.records.push(member_record(roles[0], MOST_ENTITIES));
     draft.records.extend(chain_records(&roles));
     draft
 }
 
-/// The long walk with the most people and 240 records: one starts the walk,
-/// one is the link, 31 name the next person, and 207 form the chain.
+/// The long walk with the most people and 240 records over the names of
+/// edition 1: one starts the walk, one is the link, 31 name the next person,
+/// and 207 form the chain.
+///
+/// None is longer by more than a round. Each of p people is named by a record
+/// of form 1, and all of these give in round 1. So at most 240 - p roles get
+/// members later, one of p in each round: 1 + 32 * 208 rounds with 32 people.
 pub fn longest_walk() -> Draft {
-    long_walk(MOST_ENTITIES, MOST_NAMES, 207)
+    long_walk(MOST_ENTITIES, NAMES_OF_EDITION_1, 207)
+}
+
+/// The same walk over 32 names: its 208 roles have the names 1, 6, 11, 16, 21,
+/// 26 and 31 of the entities in turn, and the next person stands in name 32.
+/// The chain ends in 1.31, as the link needs a role of the first entity.
+pub fn widest_walk() -> Draft {
+    let mut draft = Draft::new(MOST_ENTITIES, MOST_NAMES);
+    let numbers = 0..208;
+    let mut roles: Vec<Role> = numbers
+        .map(|number| Role::new(number % MOST_ENTITIES + 1, number / MOST_ENTITIES * 5 + 1))
+        .collect();
+    let end = roles.remove(192);
+    roles.push(end);
+    draft.records = walk_records(MOST_ENTITIES, MOST_NAMES, &roles);
+    draft
 }
 
 pub fn densest_links() -> Draft {
@@ -162,9 +184,12 @@ fn files() -> Vec<(&'static str, Vec<u8>)> {
         ("self.bundle", self_contained().bytes()),
         ("full.bundle", full().bytes()),
         ("over.bundle", over()),
-        ("all-absent.bundle", all_absent().bytes()),
-        ("chain.bundle", longest_chain().bytes()),
+        ("all-absent.bundle", all_absent(16).bytes()),
+        ("all-absent-32.bundle", all_absent(32).bytes()),
+        ("chain.bundle", longest_chain(16).bytes()),
+        ("chain-32.bundle", longest_chain(32).bytes()),
         ("long-walk.bundle", longest_walk().bytes()),
+        ("long-walk-32.bundle", widest_walk().bytes()),
         ("dense-links.bundle", densest_links().bytes()),
         ("house.slip", house_slip()),
     ]

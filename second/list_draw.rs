@@ -4,8 +4,8 @@
 //!
 //! Turns take the two programs one after the other.
 
-use crate::draw::{self, any_question};
-use crate::groups::{draw_case, group, Group};
+use crate::draw::{any_question, drawn_from, DAMAGED_BUNDLES, VALID_BUNDLES};
+use crate::groups::{group, Group};
 use crate::lists::{MEMBERS, ROLES};
 use crate::program::Program;
 use crate::program_exchange::{ProgramCase, ProgramSet};
@@ -15,7 +15,6 @@ use crate::reader::{
 };
 use crate::service::Question;
 use crate::shape::{self, contained_record, member_record, seal_all, Draft};
-use std::ops::Range;
 
 /// The two programs that print lists.
 pub struct Lists;
@@ -61,33 +60,33 @@ fn asked(turn: usize, question: Question, bundle: &[u8]) -> ListCase {
     ProgramCase::new(program, input)
 }
 
-/// A question and a bundle from some groups of the search's cases.
-fn of_the_search(random: &mut Random, turn: usize, groups: Range<usize>) -> ListCase {
-    let (_, case) = draw_case(&draw::GROUPS[groups], random.next(), turn / 2);
+/// A question and a bundle of the search's cases.
+fn valid_bundles(random: &mut Random, turn: usize) -> ListCase {
+    let case = drawn_from(random, VALID_BUNDLES);
     asked(turn, case.question, &case.bundle)
 }
 
-fn valid_bundles(random: &mut Random, turn: usize) -> ListCase {
-    of_the_search(random, turn, draw::VALID_BUNDLES)
-}
-
 fn damaged_bundles(random: &mut Random, turn: usize) -> ListCase {
-    of_the_search(random, turn, draw::DAMAGED_BUNDLES)
+    let case = drawn_from(random, DAMAGED_BUNDLES);
+    asked(turn, case.question, &case.bundle)
 }
 
 /// Everyone is in the first role, and as many roles as there is room for
-/// contain it; with every shelf absent everyone may be in every role.
+/// contain it; with every shelf absent everyone may be in every role. The
+/// names have any numbers.
 fn full_lists(random: &mut Random, turn: usize) -> ListCase {
-    let mut draft = Draft::new(MOST_ENTITIES, MOST_NAMES);
+    let names = random.pick(&[16, 17, MOST_NAMES]);
+    let mut draft = Draft::new(MOST_ENTITIES, names);
     let first = Role::new(1, 1);
     let everyone = 1..=MOST_ENTITIES;
     draft.records = everyone
         .map(|member| member_record(first, member))
         .collect();
     for number in 1..=MOST_CREDENTIALS - MOST_ENTITIES {
-        let role = Role::new(number / MOST_NAMES + 1, number % MOST_NAMES + 1);
+        let role = Role::new(number / names + 1, number % names + 1);
         draft.records.push(contained_record(role, first));
     }
+    shape::spread_names(random, &mut draft);
     match turn / 2 % 3 {
         0 => {}
         1 => draft.absent = (1..=MOST_ENTITIES).collect(),
@@ -116,8 +115,9 @@ fn short_questions(random: &mut Random, turn: usize) -> ListCase {
 
 /// Numbers drawn by lot, often out of range, before a valid bundle.
 fn questions_drawn_by_lot(random: &mut Random, turn: usize) -> ListCase {
-    let draft = shape::small(random);
-    let highest = if random.once_in(3) { 256 } else { 8 };
+    let mut draft = shape::small(random);
+    shape::spread_names(random, &mut draft);
+    let highest = random.pick(&[8, 8, 34, 256]);
     let mut number = || random.below(highest) as u8;
     let question = Question::about((number(), number(), number()));
     asked(turn, question, &draft.bytes())
@@ -128,6 +128,7 @@ fn questions_drawn_by_lot(random: &mut Random, turn: usize) -> ListCase {
 fn changed_bytes(random: &mut Random, turn: usize) -> ListCase {
     let mut draft = shape::small(random);
     shape::mark_absent(random, &mut draft);
+    shape::spread_names(random, &mut draft);
     let question = any_question(random, &draft);
     let mut bundle = draft.bytes();
     for _ in 0..random.between(1, 2) {

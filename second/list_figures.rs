@@ -99,15 +99,26 @@ fn try_edges(tally: &mut Tally) {
         tally.expect("one role", members, &prints(MEMBERS, &[1, 1], &bundle));
         tally.expect("one person", roles, &prints(ROLES, &[1], &bundle));
     }
-    let bundle = all_absent().bytes();
-    let everyone = prints(MEMBERS, &[32, 16], &bundle);
-    let everywhere = prints(ROLES, &[32], &bundle);
-    tally.expect("lines for everyone", 33, everyone.lines().count());
-    tally.expect("last person", Some("32 MAYBE"), everyone.lines().nth(31));
-    tally.expect("count", Some("END 0 32"), everyone.lines().last());
-    tally.expect("lines for every role", 513, everywhere.lines().count());
-    tally.expect("17th role", Some("2 1 MAYBE"), everywhere.lines().nth(16));
-    tally.expect("count", Some("END 0 512"), everywhere.lines().last());
+    let longest = [
+        (16, 512, "END 0 512", "2 1 MAYBE"),
+        (17, 544, "END 0 544", "1 17 MAYBE"),
+        (32, 1_024, "END 0 1024", "1 17 MAYBE"),
+    ];
+    for (names, roles, count, role_17) in longest {
+        let bundle = all_absent(names).bytes();
+        let everyone = prints(MEMBERS, &[32, names], &bundle);
+        let everywhere = prints(ROLES, &[32], &bundle);
+        tally.expect("lines for everyone", 33, everyone.lines().count());
+        tally.expect("last person", Some("32 MAYBE"), everyone.lines().nth(31));
+        tally.expect("count", Some("END 0 32"), everyone.lines().last());
+        tally.expect(
+            "lines for every role",
+            roles + 1,
+            everywhere.lines().count(),
+        );
+        tally.expect("17th role", Some(role_17), everywhere.lines().nth(16));
+        tally.expect("count", Some(count), everywhere.lines().last());
+    }
 }
 
 fn try_refusals(tally: &mut Tally) {

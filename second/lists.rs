@@ -12,6 +12,8 @@ use crate::reader::{read_bundle, Bundle, Refusal, LONGEST_BUNDLE};
 pub const MEMBERS: Program = Program {
     name: "members",
     longest_input: 2 + LONGEST_BUNDLE,
+    bundle_at: Some(2),
+    name_at: Some(1),
     prints: |input| printed(members(input)),
 };
 
@@ -19,6 +21,8 @@ pub const MEMBERS: Program = Program {
 pub const ROLES: Program = Program {
     name: "roles",
     longest_input: 1 + LONGEST_BUNDLE,
+    bundle_at: Some(1),
+    name_at: None,
     prints: |input| printed(roles(input)),
 };
 

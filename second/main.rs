@@ -30,6 +30,8 @@ mod desk;
 mod desk_draw;
 mod desk_figures;
 mod draw;
+mod edition;
+mod edition_figures;
 mod exchange;
 mod figures;
 mod forge;

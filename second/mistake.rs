@@ -44,7 +44,7 @@ pub fn mistake(entities: u8, names: u8, record: &[u8]) -> Option<u8> {
 }
 
 /// What the bytes of a record hold, or the mistake that leaves it open.
-fn layout_of(record: &[u8]) -> Result<&'static str, u8> {
+pub fn layout_of(record: &[u8]) -> Result<&'static str, u8> {
     let place = match (record[0], record[3]) {
         (1, _) => 0,
         (2, _) => 1,

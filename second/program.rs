@@ -10,18 +10,26 @@ pub struct Program {
     pub name: &'static str,
     /// The length of the longest input that isn't refused.
     pub longest_input: usize,
+    /// Where a bundle starts in the input, and where the name of the role that
+    /// is asked for stands, if they do.
+    pub bundle_at: Option<usize>,
+    pub name_at: Option<usize>,
     pub prints: fn(&[u8]) -> Vec<u8>,
 }
 
 pub const ASK: Program = Program {
     name: "ask",
     longest_input: 3 + LONGEST_BUNDLE,
+    bundle_at: Some(3),
+    name_at: Some(2),
     prints: |input| format!("{}\n", service::ask(input)).into_bytes(),
 };
 
 pub const ASK_WITH_SHEET: Program = Program {
     name: "ask_with_sheet",
     longest_input: 3 + BLOCK + LONGEST_BUNDLE,
+    bundle_at: Some(3 + BLOCK),
+    name_at: Some(2),
     prints: |input| format!("{}\n", service::ask_with_sheet(input)).into_bytes(),
 };
 

@@ -9,6 +9,7 @@
 //! four bytes with the length of what it printed, and that, byte for byte.
 
 use crate::comparison::{agree_items, first_byte, hex, Exchange};
+use crate::edition::{shown_by, shown_for};
 use crate::exchange::{read_bytes, read_number};
 use crate::groups::Group;
 use crate::program::{refusal_in, Program};
@@ -191,6 +192,25 @@ impl<S: ProgramSet> Exchange for ProgramCase<S> {
             None => S::outcome(&expected.output),
         };
         (format!("{name} {words}"), place)
+    }
+
+    /// The bundle is that of the input, or else the one that is printed.
+    fn also(&self, expected: &Printed) -> Vec<String> {
+        let Program {
+            name,
+            bundle_at,
+            name_at,
+            ..
+        } = self.program();
+        let bundle = match bundle_at {
+            Some(start) => self.input.get(*start..).unwrap_or(&[]),
+            None => &expected.output,
+        };
+        let edition = shown_by(bundle).map(|words| format!("{name} {words}"));
+        let asked = name_at.filter(|_| refusal_in(&expected.output).is_none());
+        let (outcome, _) = self.outcome(expected);
+        let named = asked.and_then(|place| shown_for(&outcome, self.input[place]));
+        edition.into_iter().chain(named).collect()
     }
 
     fn describe(&self) -> String {

@@ -6,6 +6,7 @@
 //! in `mistake.rs`. `read_bundle` asks them in this order, and the first that
 //! applies is the answer.
 
+use crate::edition::edition_of;
 use crate::mistake::mistake;
 use std::collections::BTreeSet;
 
@@ -19,7 +20,7 @@ pub const BLOCK_NUMBER_PLACE: usize = 508;
 pub const RECORD_COUNT_PLACE: usize = 509;
 pub const LONGEST_BUNDLE: usize = 3_584;
 pub const MOST_ENTITIES: u8 = 32;
-pub const MOST_NAMES: u8 = 16;
+pub const MOST_NAMES: u8 = 32;
 pub const MOST_CREDENTIALS: u8 = 240;
 pub const PRESENT: u8 = 1;
 pub const ABSENT: u8 = 2;
@@ -151,10 +152,10 @@ fn place_of_blocks(blocks: &BTreeSet<usize>) -> usize {
 
 /// Reads block 0, or gives nothing when its layout is broken.
 fn read_first_block(block: &[u8]) -> Option<Heading> {
-    let [version, entities, names, credentials] = [block[0], block[1], block[2], block[3]];
-    let sizes_right = version == 1
-        && (1..=MOST_ENTITIES).contains(&entities)
+    let [edition, entities, names, credentials] = [block[0], block[1], block[2], block[3]];
+    let sizes_right = (1..=MOST_ENTITIES).contains(&entities)
         && (1..=MOST_NAMES).contains(&names)
+        && edition == edition_of(names)
         && credentials <= MOST_CREDENTIALS;
     if !sizes_right || !all_zero(&block[36..CHECK_PLACE]) {
         return None;

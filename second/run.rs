@@ -7,6 +7,7 @@
 
 use crate::comparison::{agree_items, hex, Exchange};
 use crate::draw::GROUPS;
+use crate::edition::{shown_by, shown_for};
 use crate::exchange::{own_answer, Came, Case, Task, FILL_BYTE};
 use crate::groups::Group;
 use crate::reader::read_bundle;
@@ -64,6 +65,13 @@ impl Exchange for Case {
             (number, _) => format!("refused {number:2}"),
         };
         (words, usize::from(answer.place))
+    }
+
+    fn also(&self, expected: &Came) -> Vec<String> {
+        let answered = Answer::unpacked(expected.packed).number == 0;
+        let (outcome, _) = self.outcome(expected);
+        let name = shown_for(&outcome, self.question.name).filter(|_| answered);
+        shown_by(&self.bundle).into_iter().chain(name).collect()
     }
 
     fn describe(&self) -> String {

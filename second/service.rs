@@ -15,7 +15,7 @@ use crate::reader::{read_bundle, Bundle, Refusal, Role, BLOCK};
 use crate::slip::{check_slip, write_slip, LINE, LONGEST_SLIP};
 use std::collections::BTreeSet;
 
-pub const TABLE_WORDS: usize = 512;
+pub const TABLE_WORDS: usize = 1_024;
 pub const YES: u8 = 1;
 pub const NO: u8 = 2;
 pub const UNSURE: u8 = 3;

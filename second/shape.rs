@@ -4,7 +4,9 @@
 //! The shapes differ in what they make likely: many rounds, many links, many
 //! equal records, wide intersections, or bundles of one form alone.
 
+use crate::edition::edition_of;
 use crate::membership::{fact, Fact};
+use crate::mistake::layout_of;
 use crate::random::Random;
 use crate::reader::{
     block_check, Role, ABSENT, BLOCK, BLOCK_NUMBER_PLACE, CHECK_PLACE, MOST_CREDENTIALS,
@@ -36,7 +38,8 @@ impl Draft {
     pub fn bytes(&self) -> Vec<u8> {
         let mut bytes = vec![0; BLOCK];
         let count = self.records.len() as u8;
-        bytes[..4].copy_from_slice(&[1, self.entities, self.names, count]);
+        let edition = edition_of(self.names);
+        bytes[..4].copy_from_slice(&[edition, self.entities, self.names, count]);
         for entity in 1..=self.entities {
             let absent = self.absent.contains(&entity);
             bytes[3 + usize::from(entity)] = if absent { ABSENT } else { PRESENT };
@@ -148,6 +151,26 @@ pub fn mark_absent(random: &mut Random, draft: &mut Draft) {
         .collect();
 }
 
+/// Gives the names of a draft other numbers, among up to 32, half of the time.
+/// So credentials meet one another as often as before, in bundles of either
+/// edition. A draft of 32 names has its names exchanged.
+pub fn spread_names(random: &mut Random, draft: &mut Draft) {
+    if random.once_in(2) {
+        return;
+    }
+    let anywhere = random.between(usize::from(draft.names), usize::from(MOST_NAMES)) as u8;
+    let telling = random.pick(&[16, 17, MOST_NAMES, MOST_NAMES, anywhere, anywhere]);
+    draft.names = telling.max(draft.names);
+    let mut numbers: Vec<u8> = (1..=draft.names).collect();
+    random.shuffle(&mut numbers);
+    for record in &mut draft.records {
+        let layout = layout_of(record).expect("the shapes draw right records");
+        for (place, _) in layout.match_indices('n') {
+            record[place] = numbers[usize::from(record[place]) - 1];
+        }
+    }
+}
+
 /// Few entities and names, so that the credentials meet one another often.
 pub fn small(random: &mut Random) -> Draft {
     let mut draft = Draft::new(random.number(6), random.number(5));
@@ -240,7 +263,7 @@ pub fn dense_links(random: &mut Random, entities: u8, names: u8, count: usize) -
 /// A bundle in which every credential gives something: each new body is made
 /// of facts known to hold, often of the latest one, so that rounds add up.
 pub fn grown(random: &mut Random) -> Draft {
-    let mut draft = Draft::new(random.between(2, 32) as u8, random.between(2, 16) as u8);
+    let mut draft = Draft::new(random.between(2, 32) as u8, random.between(2, 32) as u8);
     let count = random.between(5, 200);
     let mut known = Vec::new();
     while draft.records.len() < count {
@@ -362,15 +385,24 @@ pub fn long_walk(people: u8, names: u8, chain_count: usize) -> Draft {
     roles.truncate(chain_count - 1);
     roles.insert(0, start);
     roles.push(end);
-    draft.records.push(member_record(start, 1));
-    draft.records.push(linked_record(start, end.name, next));
-    for person in 1..people {
-        draft
-            .records
-            .push(member_record(Role::new(person, next), person + 1));
-    }
-    draft.records.extend(chain_records(&roles));
+    draft.records = walk_records(people, next, &roles);
     draft
+}
+
+/// The records of a walk along these roles, of which the first and the last
+/// are of one entity.
+pub fn walk_records(people: u8, next: u8, roles: &[Role]) -> Vec<Record> {
+    let start = roles[0];
+    let end = roles[roles.len() - 1];
+    let mut records = vec![
+        member_record(start, 1),
+        linked_record(start, end.name, next),
+    ];
+    let everyone_else = 1..people;
+    let names_next = |person| member_record(Role::new(person, next), person + 1);
+    records.extend(everyone_else.map(names_next));
+    records.extend(chain_records(roles));
+    records
 }
 
 /// A long walk of modest length; sometimes with its records shuffled.

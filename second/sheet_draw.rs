@@ -52,7 +52,7 @@ pub fn damage_sheet(random: &mut Random, turn: usize, codes: &[u8]) -> Vec<u8> {
 }
 
 fn of_another_length(way: usize, codes: &[u8]) -> Vec<u8> {
-    const LENGTHS: [usize; 10] = [0, 1, 16, 508, 510, 511, 513, 514, 1_024, 4_096];
+    const LENGTHS: [usize; 11] = [0, 1, 16, 32, 508, 510, 511, 513, 514, 1_024, 4_096];
     let mut sheet = sheet_of(codes);
     sheet.resize(LENGTHS[way % LENGTHS.len()], 0);
     sheet

@@ -16,7 +16,7 @@ use crate::reader::{read_record, Body, Credential, Refusal, Role, RECORD};
 use crate::shape::{contained_record, intersection_record, linked_record, member_record, Record};
 use crate::writer::{put, read_list, refuse_count, refuse_list, sizes_right, MOST_RECORDS};
 
-const LONGEST_LINE: usize = "e32.r16 <- e32.r16 & e32.r16 & e32.r16\n".len();
+const LONGEST_LINE: usize = "e32.r32 <- e32.r32 & e32.r32 & e32.r32\n".len();
 pub const LONGEST_TEXT: usize = LONGEST_LINE * MOST_RECORDS;
 
 /// The line of a credential, with its newline.

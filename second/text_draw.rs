@@ -37,7 +37,7 @@ fn lines_over(random: &mut Random, count: usize) -> (Draft, Vec<Vec<u8>>) {
     let mut draft = shape::sized(random, 0);
     if random.once_in(3) {
         draft.entities = random.pick(&[1, 9, 10, 31, MOST_ENTITIES]);
-        draft.names = random.pick(&[1, 9, 10, MOST_NAMES]);
+        draft.names = random.pick(&[1, 9, 10, 16, 17, MOST_NAMES]);
     }
     let mut line = || right_line(random, &draft).into_bytes();
     let lines = (0..count).map(|_| line()).collect();
@@ -165,7 +165,7 @@ fn other_sizes(random: &mut Random, turn: usize) -> TextCase {
         0 => entities = (entities - 1).max(1),
         1 => names = (names - 1).max(1),
         2 => entities = random.pick(&[1, 9, 10, 11, MOST_ENTITIES]),
-        _ => names = random.pick(&[1, 9, 10, 11, MOST_NAMES]),
+        _ => names = random.pick(&[1, 9, 10, 11, 16, 17, 31, MOST_NAMES]),
     }
     read_case(random, (entities, names), lines.concat())
 }

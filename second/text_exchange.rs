@@ -12,11 +12,12 @@
 //! bytes with the result, low byte first, then the buffer, whole.
 
 use crate::comparison::{hex, Exchange};
+use crate::edition::shown_for;
 use crate::exchange::{read_bytes, Head};
 use crate::groups::Group;
 use crate::text::{read_lines, write_lines};
 use crate::text_draw::TEXT_GROUPS;
-use crate::writer::packed;
+use crate::writer::{packed, unpacked};
 use crate::writer_exchange::WriterCame;
 use crate::writer_run::{agree_results, written};
 use std::io::{self, Read, Write};
@@ -52,6 +53,15 @@ impl TextCase {
             ..TextCase::read_text((entities, names), records, buffer)
         }
     }
+}
+
+/// The highest name that stands in a right text, 0 where there is no line.
+fn highest_name(text: &[u8]) -> u8 {
+    let text = String::from_utf8_lossy(text);
+    let behind = text.split(".r").skip(1);
+    let digits = behind.filter_map(|rest| rest.split(|one: char| !one.is_ascii_digit()).next());
+    let names = digits.filter_map(|name| name.parse().ok());
+    names.max().unwrap_or(0)
 }
 
 impl Exchange for TextCase {
@@ -126,6 +136,19 @@ impl Exchange for TextCase {
         let call = if self.kind == READ { "read" } else { "write" };
         let (words, place) = written(expected.results[0]);
         (format!("{call} {words}"), place)
+    }
+
+    /// Of a call that is not refused, whether its text has a name above 16.
+    fn also(&self, expected: &WriterCame) -> Vec<String> {
+        let text = match (self.kind, unpacked(expected.results[0])) {
+            (_, Err(_)) => &[],
+            (READ, Ok(_)) => &self.handed[..],
+            (_, Ok(length)) => &expected.buffer[..length],
+        };
+        let (outcome, _) = self.outcome(expected);
+        shown_for(&outcome, highest_name(text))
+            .into_iter()
+            .collect()
     }
 
     fn describe(&self) -> String {

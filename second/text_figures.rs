@@ -162,24 +162,38 @@ fn try_flaws(tally: &mut Tally) {
 fn try_edges(tally: &mut Tally) {
     tally.expect("no text", Ok(Vec::new()), read(1, 1, ""));
     tally.expect("no records", Ok(Vec::new()), written(1, 1, &[]));
-    let longest = "e32.r16 <- e32.r16 & e32.r16 & e32.r16\n";
-    let record = [4, 32, 16, 3, 32, 16, 32, 16, 32, 16, 0, 0];
+    let longest = "e32.r32 <- e32.r32 & e32.r32 & e32.r32\n";
+    let record = [4, 32, 32, 3, 32, 32, 32, 32, 32, 32, 0, 0];
     let text = longest.repeat(240);
     let records = record.repeat(240);
     tally.expect("bytes of the longest text", 9_360, text.len());
-    tally.expect("longest text", Ok(records.clone()), read(32, 16, &text));
+    tally.expect("longest text", Ok(records.clone()), read(32, 32, &text));
     tally.expect(
         "as text",
         Ok(text.clone().into_bytes()),
-        written(32, 16, &records),
+        written(32, 32, &records),
     );
-    for (entities, names) in [(31, 16), (32, 15), (9, 9)] {
+    for (entities, names) in [(31, 32), (32, 31), (32, 16), (9, 9)] {
         let came = read(entities, names, &text);
         tally.expect("out of range", refused(14, 1), came);
     }
     for (count, expected) in [(9, true), (10, true), (32, true), (8, false)] {
         let came = read(count, 1, "e9.r1 <- e9\n").is_ok();
         tally.expect("nine of these", expected, came);
+    }
+    for (name, names, expected) in [(16, 16, true), (17, 16, false), (17, 17, true)] {
+        let line = format!("e1.r{name} <- e1.r{name}.r{name}\n");
+        tally.expect(&line, expected, read(1, names, &line).is_ok());
+    }
+    for (name, expected) in [
+        (17, true),
+        (31, true),
+        (32, true),
+        (33, false),
+        (320, false),
+    ] {
+        let line = format!("e1.r1 <- e1.r1 & e1.r{name}\n");
+        tally.expect(&line, expected, read(1, 32, &line).is_ok());
     }
     tally.expect("ten of nine", refused(14, 1), read(9, 1, "e10.r1 <- e1\n"));
     tally.expect("ten of ten", true, read(10, 1, "e10.r1 <- e1\n").is_ok());
@@ -211,7 +225,7 @@ fn try_order(tally: &mut Tally) {
     };
     expect_written("1 goes first", 0, &records, 0, 1, 0);
     records.pop();
-    expect_written("then 3", 17, &records, 0, 3, 0);
+    expect_written("then 3", 33, &records, 0, 3, 0);
     expect_written("then 61", 1, &records, 0, 61, 241);
     records[240 * RECORD] = 1;
     expect_written("then 12", 1, &records, 0, 12, 241);

@@ -6,7 +6,6 @@
 
 use crate::draw::{self, any_question, enough_lent, spoil_question};
 use crate::groups::{group, Group};
-use crate::holder_draw::of_the_search;
 use crate::house::{self, house};
 use crate::membership::{possible_table, possible_with, sure_walk, Fact};
 use crate::open_roles::open_roles;
@@ -86,14 +85,16 @@ fn valid_call(random: &mut Random, turn: usize, draft: &Draft, codes: &[u8]) -> 
 }
 
 fn some_draft(random: &mut Random, turn: usize) -> Draft {
-    match turn / 3 % 6 {
+    let mut draft = match turn / 3 % 6 {
         0 => shape::sized(random, 30),
         1 => shape::intersections(random),
         2 => shape::grown(random),
         3 => shape::dense_links(random, 8, 3, 40),
         4 => shape::busy(random),
         _ => shape::small(random),
-    }
+    };
+    shape::spread_names(random, &mut draft);
+    draft
 }
 
 fn one_shelf_absent(random: &mut Random, turn: usize) -> SheetCase {
@@ -112,7 +113,7 @@ fn some_shelves_absent(random: &mut Random, turn: usize) -> SheetCase {
 
 /// The bundles of the search, with a question drawn by lot.
 fn valid_bundles(random: &mut Random, turn: usize) -> SheetCase {
-    let bundle = of_the_search(random, draw::VALID_BUNDLES);
+    let bundle = draw::drawn_from(random, draw::VALID_BUNDLES).bundle;
     let codes = telling_codes(random, bundle[2]);
     let question = any_question(random, &Draft::new(bundle[1], bundle[2]));
     let lent = enough_lent(random);
@@ -149,7 +150,7 @@ fn draft_over(random: &mut Random, codes: &[u8]) -> Draft {
 }
 
 fn wrong_sheets(random: &mut Random, turn: usize) -> SheetCase {
-    let names = random.pick(&[1, 2, 6, 15, MOST_NAMES]);
+    let names = random.pick(&[1, 2, 6, 15, 16, 17, MOST_NAMES - 1, MOST_NAMES]);
     let codes = some_codes(random, names);
     let draft = draft_over(random, &codes);
     let sheet = damage_sheet(random, turn, &codes);
@@ -171,7 +172,7 @@ fn changed_sheets(random: &mut Random, turn: usize) -> SheetCase {
 /// Damaged bundles, half of them with a sheet that would fit, the others with
 /// a wrong one.
 fn damaged_bundles(random: &mut Random, turn: usize) -> SheetCase {
-    let bundle = of_the_search(random, draw::DAMAGED_BUNDLES);
+    let bundle = draw::drawn_from(random, draw::DAMAGED_BUNDLES).bundle;
     let names = bundle.get(2).copied().unwrap_or(1).clamp(1, MOST_NAMES);
     let sheet = match turn / 3 % 2 {
         0 => some_sheet(random, names),
@@ -184,12 +185,12 @@ fn damaged_bundles(random: &mut Random, turn: usize) -> SheetCase {
 
 /// Every pairing of telling lengths in turn.
 fn lent_lengths(random: &mut Random, turn: usize) -> SheetCase {
-    const WORDS: [usize; 5] = [512, 511, 0, 513, 600];
+    const WORDS: [usize; 6] = [1_024, 1_023, 0, 1_025, 512, 1_200];
     const BYTES: [usize; 3] = [61_440, 61_439, 0];
     let mut case = one_shelf_absent(random, 3);
     let lent = Lent {
-        sure_words: WORDS[turn / 3 % 5],
-        possible_words: WORDS[turn / 15 % 5],
+        sure_words: WORDS[turn / 3 % 6],
+        possible_words: WORDS[turn / 18 % 6],
         slip_bytes: BYTES[turn / 6 % 3],
     };
     let bundle = std::mem::take(&mut case.case.bundle);
@@ -199,7 +200,7 @@ fn lent_lengths(random: &mut Random, turn: usize) -> SheetCase {
 /// A bundle, a sheet, a question and lent memory, each of them wrong or not,
 /// to show which is found first.
 fn several_faults(random: &mut Random, turn: usize) -> SheetCase {
-    let names = random.number(6);
+    let names = random.number(MOST_NAMES);
     let codes = some_codes(random, names);
     let draft = draft_over(random, &codes);
     let mut question = any_question(random, &draft);
@@ -207,7 +208,7 @@ fn several_faults(random: &mut Random, turn: usize) -> SheetCase {
     let mut sheet = sheet_of(&codes);
     let mut lent = Lent::enough();
     if random.once_in(4) {
-        bundle = of_the_search(random, draw::DAMAGED_BUNDLES);
+        bundle = draw::drawn_from(random, draw::DAMAGED_BUNDLES).bundle;
     }
     if random.once_in(2) {
         sheet = damage_sheet(random, turn, &codes);
@@ -216,7 +217,7 @@ fn several_faults(random: &mut Random, turn: usize) -> SheetCase {
         spoil_question(turn, &draft, &mut question);
     }
     if random.once_in(2) {
-        lent.sure_words = random.pick(&[0, 511]);
+        lent.sure_words = random.pick(&[0, 512, 1_023]);
     }
     call(turn, question, bundle, sheet, lent)
 }

@@ -8,6 +8,7 @@
 //! buffer of no bytes, and it is judged as that of a search.
 
 use crate::comparison::{hex, Exchange};
+use crate::edition::{shown_by, shown_for};
 use crate::exchange::{came_of, lent_table, read_bytes, read_number, Came, Case, Head};
 use crate::groups::Group;
 use crate::membership::possible_table;
@@ -174,6 +175,16 @@ impl Exchange for SheetCase {
             _ => "as without the sheet",
         };
         (format!("{call} {words}"), more as usize)
+    }
+
+    fn also(&self, expected: &Came) -> Vec<String> {
+        let answered = Answer::unpacked(expected.packed).number == 0;
+        let (outcome, _) = self.outcome(expected);
+        let name = shown_for(&outcome, self.case.question.name).filter(|_| answered);
+        shown_by(&self.case.bundle)
+            .into_iter()
+            .chain(name)
+            .collect()
     }
 
     fn describe(&self) -> String {

@@ -67,7 +67,7 @@ fn try_refusals(tally: &mut Tally) {
     let sheet = sheet_of(&CODES);
     let nobody = Question::about((7, 1, 1));
     let short = Lent {
-        sure_words: 511,
+        sure_words: 1_023,
         ..Lent::enough()
     };
     let number = |bundle: &[u8], sheet: &[u8], question, lent| {

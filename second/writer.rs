@@ -10,6 +10,7 @@
 //! Each refusal has its own small function. They are asked in the order 1 to
 //! 5, 61 to 65, 12, 13, and a refused call writes nothing.
 
+use crate::edition::edition_of;
 use crate::mistake::mistake;
 use crate::reader::{
     block_check, read_bundle, read_marks, read_record, Body, Bundle, Credential, Refusal, Role,
@@ -171,7 +172,7 @@ fn first_block(bundle: &Bundle) -> Vec<u8> {
         _ => PRESENT,
     };
     with_check(|place| match place {
-        0 => 1,
+        0 => edition_of(bundle.names),
         1 => bundle.entities,
         2 => bundle.names,
         3 => bundle.credentials.len() as u8,

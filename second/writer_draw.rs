@@ -223,13 +223,13 @@ pub fn spoil_sizes(random: &mut Random, turn: usize, content: &mut Content) {
         1 => content.entities = 33,
         2 => content.entities = 255,
         3 => content.names = 0,
-        4 => content.names = 17,
+        4 => content.names = 33,
         5 => content.names = 255,
         6 => content.entities += 1,
         7 => content.entities -= 1,
         _ => {
             content.entities = random.pick(&[0, 33]);
-            content.names = random.pick(&[0, 17]);
+            content.names = random.pick(&[0, 33]);
         }
     }
 }
@@ -420,8 +420,8 @@ fn appends_to_damaged_bundles(random: &mut Random, turn: usize) -> WriterCase {
         _ => random.between(1, 240),
     };
     let draft = draft_with(random, count);
-    let way = turn / 8;
-    let bytes = match turn % 8 {
+    let way = turn / 9;
+    let bytes = match turn % 9 {
         0 => damage::damage_length(random, way, &draft),
         1 => damage::damage_check(random, way, &draft),
         2 => damage::damage_first_block(random, way, &draft),
@@ -429,6 +429,7 @@ fn appends_to_damaged_bundles(random: &mut Random, turn: usize) -> WriterCase {
         4 => damage::damage_block_end(random, way, &draft),
         5 => damage::damage_record(random, way, &draft),
         6 => damage::damage_records(random, way, &draft),
+        7 => damage::damage_edition(random, way, &draft),
         _ => damage::damage_often(random, &draft),
     };
     let record = match random.below(3) {

@@ -101,7 +101,7 @@ fn try_refused_lists(tally: &mut Tally) {
         ),
         ("E is one less", |content| content.entities = 5, 1_024, 3, 0),
         ("R is 0", |content| content.names = 0, 1_024, 3, 0),
-        ("R is 17", |content| content.names = 17, 1_024, 3, 0),
+        ("R is 33", |content| content.names = 33, 1_024, 3, 0),
         ("mark 0", |content| content.marks[5] = 0, 1_024, 3, 0),
         ("mark 3", |content| content.marks[0] = 3, 1_024, 3, 0),
         (

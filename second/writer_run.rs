@@ -5,7 +5,9 @@
 //! written or not. Nothing is left open.
 
 use crate::comparison::{agree_items, hex, Exchange};
+use crate::edition::shown_by;
 use crate::groups::Group;
+use crate::reader::Refusal;
 use crate::service::Answer;
 use crate::writer::{unpacked, Content};
 use crate::writer_draw::WRITER_GROUPS;
@@ -73,6 +75,29 @@ impl Exchange for WriterCase {
         };
         let (words, place) = written(results[0]);
         (format!("{kind} {words}"), place)
+    }
+
+    /// What the bundle shows that is written, or whose block 0 an append
+    /// refuses.
+    fn also(&self, expected: &WriterCame) -> Vec<String> {
+        let (kind, result) = match &self.call {
+            Call::Write(_) => ("write", expected.results[0]),
+            Call::Append(_) => ("append", expected.results[0]),
+            Call::Chain(..) => ("chain", expected.results[0]),
+            Call::Slip(..) => ("slip", expected.results[1]),
+        };
+        let bundle = match (&self.call, unpacked(result)) {
+            (_, Ok(length)) => expected.buffer.get(..length),
+            (Call::Append(held), Err(Refusal { number: 3, .. })) => {
+                self.buffer.get(..held.length as usize)
+            }
+            _ => None,
+        };
+        let shown = bundle.and_then(shown_by);
+        shown
+            .map(|words| format!("{kind} {words}"))
+            .into_iter()
+            .collect()
     }
 
     fn describe(&self) -> String {
