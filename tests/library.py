@@ -15,7 +15,8 @@ import tempfile
 from collections import namedtuple
 from pathlib import Path
 
-TABLE_WORDS = 512
+NAMES = 32
+TABLE_WORDS = 1024
 SLIP_BYTES = 61440
 LINE_BYTES = 8
 
@@ -128,18 +129,18 @@ def untouched(answer):
 
 
 def table(members):
-    """The 512 words of a table, from the members of each role: {(entity, name): people}."""
+    """The 1,024 words of a table, from the members of each role: {(entity, name): people}."""
     words = [0] * TABLE_WORDS
     for (entity, name), people in members.items():
         for person in people:
-            words[16 * (entity - 1) + name - 1] |= 1 << (person - 1)
+            words[NAMES * (entity - 1) + name - 1] |= 1 << (person - 1)
     return words
 
 
 def has(words, question):
     """Whether a table holds the fact that a question asks for."""
     person, entity, name = question
-    return words[16 * (entity - 1) + name - 1] >> (person - 1) & 1 == 1
+    return words[NAMES * (entity - 1) + name - 1] >> (person - 1) & 1 == 1
 
 
 def slip_of(lines):

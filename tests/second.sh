@@ -8,15 +8,23 @@
 #     groups               how many groups of cases there are
 #     outcomes             what the cases must reach, as patterns of grep -E; a wrong record or line at several places, and
 #                          wrong checks at more than the seven places of a single block
+#     also                 what the cases must show besides, in the second program's words, and nothing else: editions, and
+#                          names above 16
 #     compare SEED COUNT   a function that compares so many cases and prints what the second program says: tests/compare or
 #                          one like it
 
 second=target/tests/second
 
-# Every group agrees, no group is empty, no case is left out, and every outcome is reached. What the comparison said stays in
-# $work/said.
+# What bundles show of editions: each of the two, each for a number of names that it does not fit, and others.
+# shellcheck disable=SC2034 # the groups read it
+editions=(
+    'edition 1' 'edition 2' 'edition 1 for 17 names or more' 'edition 2 for 16 names or fewer' 'an edition that there is not'
+)
+
+# Every group agrees, no group is empty, no case is left out, every outcome is reached, and all is shown that is to be shown. What
+# the comparison said stays in $work/said.
 compare_drawn() { # SEED COUNT
-    local agrees group number outcome named=0 sum=0
+    local agrees group number outcome shown named=0 sum=0
     if ! compare "$1" "$2" >"$work/said"; then
         fail "seed $1: not all agree"
         cut -c 1-2000 "$work/said"
@@ -29,11 +37,24 @@ compare_drawn() { # SEED COUNT
         fi
         pass "seed $1: $group, $number cases agree"
         named=$((named + 1)) sum=$((sum + number))
-    done < <(grep -v '^outcome: ' "$work/said")
+    done < <(grep -v -E '^(outcome|also): ' "$work/said")
     same "seed $1: every group and every case is compared" "$groups groups, $2 cases" "$named groups, $sum cases"
     for outcome in "${outcomes[@]}"; do
         reached "seed $1" "$outcome"
     done
+    for shown in "${also[@]}"; do
+        shown_by_cases "seed $1" "$shown"
+    done
+    same "seed $1: nothing else is shown" "${#also[@]}" "$(grep -c '^also: ' "$work/said")"
+}
+
+shown_by_cases() { # NAME WORDS
+    local line
+    if line=$(grep -F "also: $2: " "$work/said"); then
+        pass "$1: ${line#also: }"
+    else
+        fail "$1: no case shows: $2"
+    fi
 }
 
 reached() { # NAME OUTCOME
@@ -65,7 +86,7 @@ answers_to_spoil() { # COUNT
     "$second" "answer$kind" "$work/cases" "$work/answers"
     "$second" "compare$kind" "$work/cases" "$work/answers" >"$work/said"
     same "$1 answers agree as they are" 0 "$?"
-    same 'no word of a difference' '' "$(grep -v -E '^(agree|outcome): ' "$work/said")"
+    same 'no word of a difference' '' "$(grep -v -E '^(agree|outcome|also): ' "$work/said")"
 }
 
 # Spoiled answers must be told from the right ones, by this first line.

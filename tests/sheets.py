@@ -21,6 +21,8 @@ def script(name):
 blocks = script("make-bundles")
 bundle = blocks.bundle
 house = blocks.house
+house_of_32 = blocks.house_of_32
+HOUSE_NAMES_OF_32 = blocks.HOUSE_NAMES_OF_32
 
 
 def sheet(*codes):
