@@ -10,7 +10,7 @@
 
 extern int atoi(const char *text);
 
-static uint8_t bundle[3585];
+static uint8_t bundle[PORTERTRUNK_BUNDLE_BYTES + 1];
 static uint32_t sure[PORTERTRUNK_WORDS];
 static uint32_t possible[PORTERTRUNK_WORDS];
 static uint8_t slip[PORTERTRUNK_SLIP_BYTES];

@@ -3,18 +3,13 @@
  *     bench_lists members ENTITY ROLE <BUNDLE
  *     bench_lists roles PERSON <BUNDLE
  *
- * It repeats the tables and the list in turn for two seconds and at least ten times, and prints the bytes of the list, the
+ * It repeats the tables and the list in turn for one second and at least ten times, and prints the bytes of the list, the
  * shortest time of the tables and of the list in microseconds, and the list's time in hundredths of the tables', as the end
  * of a line of the table that bench/run prints. */
-#include <stddef.h>
-#include <stdint.h>
+#include "clock.h"
+#include "portertrunk.h"
 #include <stdio.h>
 
-struct timespec {
-    long tv_sec;
-    long tv_nsec;
-};
-extern int clock_gettime(int clock, struct timespec *now);
 extern int atoi(const char *text);
 
 /* The functions of crates/timed. */
@@ -24,24 +19,13 @@ extern uint64_t timed_members(const uint8_t *bundle, size_t bundle_bytes, uint8_
                               size_t text_bytes);
 extern uint64_t timed_roles(const uint8_t *bundle, size_t bundle_bytes, uint8_t person, uint8_t *text, size_t text_bytes);
 
-#define MONOTONIC_CLOCK 1
-#define LEAST_CALLS 10
-#define NANOSECONDS_IN_ALL 2000000000L
-#define WORDS 512
-#define TEXT_BYTES 8192
+/* No list is as long: it has a line of at most 12 bytes for each word of a table, and one more. */
+#define TEXT_BYTES (16 * (PORTERTRUNK_WORDS + 1))
 
-static uint8_t bundle[3585];
-static uint32_t sure[WORDS];
-static uint32_t possible[WORDS];
+static uint8_t bundle[PORTERTRUNK_BUNDLE_BYTES + 1];
+static uint32_t sure[PORTERTRUNK_WORDS];
+static uint32_t possible[PORTERTRUNK_WORDS];
 static uint8_t text[TEXT_BYTES];
-
-static long nanoseconds(void) {
-    struct timespec now;
-    clock_gettime(MONOTONIC_CLOCK, &now);
-    return now.tv_sec * 1000000000L + now.tv_nsec;
-}
-
-static long shorter(long best, long took) { return best < 0 || took < best ? took : best; }
 
 int main(int count, char **words) {
     if (count != 3 && count != 4) {
@@ -52,9 +36,9 @@ int main(int count, char **words) {
     size_t bundle_bytes = fread(bundle, 1, sizeof bundle, stdin);
     uint64_t length = 0;
     long tables = -1, list = -1, start = nanoseconds();
-    for (long done = 0; done < LEAST_CALLS || nanoseconds() - start < NANOSECONDS_IN_ALL; done++) {
+    for (long done = 0; once_more(done, start); done++) {
         long before = nanoseconds();
-        timed_tables(bundle, bundle_bytes, sure, WORDS, possible, WORDS);
+        timed_tables(bundle, bundle_bytes, sure, PORTERTRUNK_WORDS, possible, PORTERTRUNK_WORDS);
         long between = nanoseconds();
         length = count == 4 ? timed_members(bundle, bundle_bytes, first, second, text, TEXT_BYTES)
                             : timed_roles(bundle, bundle_bytes, first, text, TEXT_BYTES);

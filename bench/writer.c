@@ -1,10 +1,11 @@
-/* The benchmark of the writer: how long it takes to write 240 records, and to append the 240th.
+/* The benchmark of the writer: how long it takes to write 240 records, or to append the 240th.
  *
- *     bench_writer <BUNDLE
+ *     bench_writer write <BUNDLE
+ *     bench_writer append <BUNDLE
  *
- * The bundle in standard input has 240 records; they are written again, and the last is appended to the others. Each call is
- * repeated for one second and at least ten times. It prints a line for each, with the length of the bundle and the shortest
- * time of all in microseconds. */
+ * The bundle in standard input has 240 records; they are written again, or the last is appended to the others. The call is
+ * repeated for one second and at least ten times. It prints the length of the bundle and the shortest time of all in
+ * microseconds, as the end of a line of the table that bench/run prints. */
 #include "clock.h"
 #include "portertrunk.h"
 #include <stdio.h>
@@ -35,8 +36,8 @@ static uint64_t append_last(uint64_t length) {
     return portertrunk_append(buffer, sizeof buffer, length, records + BUT_ONE_BYTES, PORTERTRUNK_RECORD_BYTES);
 }
 
-static int say(const char *what, uint64_t result, long best) {
-    printf("%-22s %6lu bytes %14.1f\n", what, (unsigned long)portertrunk_length(result), (double)best / 1000.0);
+static int say(uint64_t result, long best) {
+    printf("%6lu bytes %14.1f\n", (unsigned long)portertrunk_length(result), (double)best / 1000.0);
     return portertrunk_number(result) != 0;
 }
 
@@ -48,7 +49,7 @@ static int measure_write(void) {
         result = write_first(RECORDS_BYTES);
         best = shorter(best, nanoseconds() - before);
     }
-    return say("240 records written", result, best);
+    return say(result, best);
 }
 
 /* The bundle of 239 records is written anew before each append, outside the time. */
@@ -61,14 +62,14 @@ static int measure_append(void) {
         result = append_last(length);
         best = shorter(best, nanoseconds() - before);
     }
-    return say("the 240th appended", result, best);
+    return say(result, best);
 }
 
-int main(void) {
-    if (fread(given, 1, sizeof given, stdin) != PORTERTRUNK_BUNDLE_BYTES) {
-        fputs("usage: bench_writer <BUNDLE, a bundle of 240 records\n", stderr);
+int main(int count, char **words) {
+    if (count != 2 || fread(given, 1, sizeof given, stdin) != PORTERTRUNK_BUNDLE_BYTES) {
+        fputs("usage: bench_writer write|append <BUNDLE, a bundle of 240 records\n", stderr);
         return 1;
     }
     take_records();
-    return measure_write() || measure_append();
+    return words[1][0] == 'w' ? measure_write() : measure_append();
 }
