@@ -17,15 +17,14 @@
 #define ENTITY 1 /* the Archive */
 #define ROLE 6   /* signer */
 
-/* The longest bundle has 3,584 bytes. The buffer has room for one more, so that longer input has a wrong length and is
- * refused; a buffer of 3,584 bytes would cut it to something else than what was sent. */
-#define LONGEST_BUNDLE 3584
-
 #define LINE_BYTES 8
 #define PREMISES 3
 
+/* The buffer has room for one byte more than the longest bundle, so that longer input has a wrong length and is refused; a
+ * buffer without it would cut the input to something else than what was sent. */
+static uint8_t bundle[PORTERTRUNK_BUNDLE_BYTES + 1];
+
 /* The memory that the calls are lent. It need not be cleared: a search that is not refused writes all of both tables. */
-static uint8_t bundle[LONGEST_BUNDLE + 1];
 static uint32_t sure[PORTERTRUNK_WORDS];
 static uint32_t possible[PORTERTRUNK_WORDS];
 static uint8_t slip[PORTERTRUNK_SLIP_BYTES];

@@ -14,8 +14,6 @@
 #include "portertrunk.h"
 #include "cases.h"
 
-#define RECORD_BYTES 12
-
 struct buffer {
     uint8_t *at;
     uint32_t bytes;
@@ -44,10 +42,10 @@ static void append_case(const uint8_t *head, struct buffer bundle) {
 
 /* Each record is appended from memory of its own, to the length that the call before has given. */
 static uint64_t append_all(struct buffer bundle, uint64_t result, const uint8_t *records, uint32_t bytes) {
-    for (uint32_t done = 0; done < bytes && !refused(result); done += RECORD_BYTES) {
-        uint8_t *record = take(RECORD_BYTES);
-        for (int i = 0; i < RECORD_BYTES; i++) record[i] = records[done + i];
-        result = portertrunk_append(bundle.at, bundle.bytes, result, record, RECORD_BYTES);
+    for (uint32_t done = 0; done < bytes && !refused(result); done += PORTERTRUNK_RECORD_BYTES) {
+        uint8_t *record = take(PORTERTRUNK_RECORD_BYTES);
+        for (int i = 0; i < PORTERTRUNK_RECORD_BYTES; i++) record[i] = records[done + i];
+        result = portertrunk_append(bundle.at, bundle.bytes, result, record, PORTERTRUNK_RECORD_BYTES);
         free(record);
     }
     return result;
@@ -55,9 +53,9 @@ static uint64_t append_all(struct buffer bundle, uint64_t result, const uint8_t 
 
 static void chain_case(const uint8_t *head, struct buffer bundle) {
     uint32_t marks_bytes = number(head + 9), records_bytes = number(head + 13), first = number(head + 17);
-    if (records_bytes % RECORD_BYTES != 0 || first > records_bytes / RECORD_BYTES) STOP("harness: no chain\n");
+    if (records_bytes % PORTERTRUNK_RECORD_BYTES != 0 || first > records_bytes / PORTERTRUNK_RECORD_BYTES) STOP("harness: no chain\n");
     uint8_t *marks = take_input(marks_bytes), *records = take_input(records_bytes);
-    uint32_t written = first * RECORD_BYTES;
+    uint32_t written = first * PORTERTRUNK_RECORD_BYTES;
     uint64_t result = portertrunk_write(head[2], head[3], marks, marks_bytes, records, written, bundle.at, bundle.bytes);
     result = append_all(bundle, result, records + written, records_bytes - written);
     put(&result, 8);
