@@ -22,10 +22,10 @@ use input::Input;
 use input::fill;
 use libc::STDERR_FILENO;
 use libc::STDOUT_FILENO;
+use rt0::Slip;
 use said::Said;
 use said::write_text;
 use search::search;
-use search::slip::Slip;
 use words::table::Table;
 
 // The bytes of a question before its bundle: the person, the entity and the role name.

@@ -25,9 +25,9 @@ use input::Input;
 use input::fill;
 use libc::STDERR_FILENO;
 use libc::STDOUT_FILENO;
+use rt0::Slip;
 use said::Said;
 use said::write_text;
-use search::slip::Slip;
 use with_sheet::search_with_sheet;
 use words::table::Table;
 

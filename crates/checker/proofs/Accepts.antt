@@ -14,6 +14,7 @@ use Rattle.rt0.specs.Membership.{Member}
 use Rattle.rt0.specs.Book.{Keeps}
 use Rattle.rt0.specs.Slip.{SlipFor, Says, _∋_}
 use Rattle.rt0.specs.Bytes.{lineFrom, linesOf, bytesOf}
+use Rattle.rt0.specs.Sizes.{slipLines, slipBytes}
 use Rattle.rt0.proofs.Slips.{slip-sound, slip-lasts}
 use Rattle.rt0.proofs.Books.{book-keeps}
 use Rattle.rt0.proofs.SlipBytes.{length-bytesOf, linesOf-bytesOf, bytesOf-small, length-linesOf}
@@ -79,7 +80,7 @@ pub record SlipThere (bundle : List ℕ) (q : Question) : Type 0 where
   pub slip : List ℕ
   pub lines : ℕ
   pub accepted : Checks bundle q slip (Accepted lines)
-  pub size : length slip ≤ 61440
+  pub size : length slip ≤ slipBytes
   pub small : (b : ℕ) → b ∈ slip → b < 256
 
 pub member-accepted : (bundle : List ℕ) (s : Sizes) (q : Question) → Asked bundle s q → Member (held bundle) (roleAsked q) (q .person)
@@ -127,7 +128,7 @@ same-lines xs ys (suc n) h =
     rw (same-lines xs ys n (λ k l. h k (omega arith)), same-line xs ys (8 * n) (λ k l. h k (omega arith)))
 
 pub written-accepted : (bundle : List ℕ) (s : Sizes) (q : Question) → Asked bundle s q
-    → (bytes : List ℕ) (n : ℕ) → 1 ≤ n → n ≤ 7680 → 8 * n ≤ length bytes
+    → (bytes : List ℕ) (n : ℕ) → 1 ≤ n → n ≤ slipLines → 8 * n ≤ length bytes
     → SlipFor (bookIn bundle) (roleAsked q) (q .person) (linesOf bytes n) → Checks bundle q (take (8 * n) bytes) (Accepted n)
 written-accepted bundle s q asked bytes n some-line most-lines long right =
     let start = take (8 * n) bytes in

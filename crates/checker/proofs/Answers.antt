@@ -12,6 +12,7 @@ use Rattle.rt0.specs.Credential.{Role}
 use Rattle.rt0.specs.Book.{Book, item}
 use Rattle.rt0.specs.Slip.{Fact, _∋_, stated}
 use Rattle.rt0.specs.Bytes.{linesOf}
+use Rattle.rt0.specs.Sizes.{slipLines, slipBytes}
 use Rattle.base.specs.Lowest.{lowest}
 use Rattle.base.proofs.Flags.{or-false}
 use Rattle.checker.specs.declared.check.Checked.the-variants.{Accepted, Refused}
@@ -19,12 +20,12 @@ use Rattle.checker.specs.Premise.{sameFact, lineWrong}
 use Rattle.checker.specs.Checking.{slipLengthWrong, lastStates, lastTests, lineTests, slipTests, checkBy}
 
 -- a right length is that of 1 to 7,680 whole lines
-pub slip-length-right : (n : ℕ) → slipLengthWrong n ≡ false → (1 ≤ n / 8) × (n / 8 ≤ 7680) × (n ≡ 8 * (n / 8))
+pub slip-length-right : (n : ℕ) → slipLengthWrong n ≡ false → (1 ≤ n / 8) × (n / 8 ≤ slipLines) × (n ≡ 8 * (n / 8))
 slip-length-right n h =
-    let (s, m) = or-false (eqb n 0 || ltb 61440 n) (not (eqb (n % 8) 0)) h in
-    let (z, l) = or-false (eqb n 0) (ltb 61440 n) s in
+    let (s, m) = or-false (eqb n 0 || ltb slipBytes n) (not (eqb (n % 8) 0)) h in
+    let (z, l) = or-false (eqb n 0) (ltb slipBytes n) s in
     let nonzero : n ≡ 0 → ⊥ = eqb-false n 0 z in
-    let most : n ≤ 61440 = ltb-false 61440 n l in
+    let most : n ≤ slipBytes = ltb-false slipBytes n l in
     let whole : n % 8 ≡ 0 = eqb-true (n % 8) 0 (not-false (eqb (n % 8) 0) m) in
     omega arith
 

@@ -12,6 +12,7 @@ use Rattle.rt0.specs.Credential.{Role, _·_, Credential, AllValid}
 use Rattle.rt0.specs.Book.{Book, NamesOnly}
 use Rattle.rt0.specs.Slip.{Line, _∋_, Says, RightLine, RightSlip, SlipFor}
 use Rattle.rt0.specs.Bytes.{lineFrom, linesOf}
+use Rattle.rt0.specs.Sizes.{slipLines, slipBytes}
 use Rattle.rt0.proofs.SlipBytes.{length-linesOf, linesOf-at}
 use Rattle.base.specs.Lowest.{LowestBelow, lowest}
 use Rattle.base.specs.Refusals.{Row, AllOnePlace, AllNumbered, OnePlace, FromOne, Finds, Due, Clear, Refusal, test, zeroIf, lowestFromOne, given, clear, refused, passed, first}
@@ -52,7 +53,7 @@ broken-place book lines p q a b = equal (decLt p q) (decLt q p)
     equal (no m) (no l) = omega arith
 
 length-tells : (n : ℕ) → Tells (slipLengthWrong n) (SlipLengthWrong n)
-length-tells n = or-tells-three _ _ _ (eq-tells n 0) (lt-tells 61440 n) (not-tells _ (eq-tells _ 0))
+length-tells n = or-tells-three _ _ _ (eq-tells n 0) (lt-tells slipBytes n) (not-tells _ (eq-tells _ 0))
 
 module _ (E R : ℕ) (cs : List Credential) (v : AllValid E R cs) (book : Book) (only : NamesOnly book cs) (slip : List ℕ) where
   -- a line of the slip breaks its rules exactly where its test holds
@@ -175,7 +176,7 @@ module _ (bundle : List ℕ) (q : Question) (slip : List ℕ) where
   -- where no row on the slip applies it shows what is asked, and the other way round
   module _ (s : Sizes) (h : Accepts bundle s) where
     pub clear-slip : Clear (slipRows (bookIn bundle) (roleAsked q) (q .person) slip)
-        → (1 ≤ length slip / 8) × (length slip / 8 ≤ 7680) × (length slip ≡ 8 * (length slip / 8))
+        → (1 ≤ length slip / 8) × (length slip / 8 ≤ slipLines) × (length slip ≡ 8 * (length slip / 8))
         × SlipFor (bookIn bundle) (roleAsked q) (q .person) (linesOf slip (length slip / 8))
     clear-slip (length-none, (line-none, (last-none, _))) =
         let sound = holding-sound bundle s h in
@@ -192,7 +193,7 @@ module _ (bundle : List ℕ) (q : Question) (slip : List ℕ) where
         by false e right =
             absurd (last-none (0, (refl, (right, λ says. clash-flag (last-right (bookIn bundle) slip (length slip / 8) (roleAsked q) (q .person) .1 says) e))))
 
-    pub slip-clear : (n : ℕ) → 1 ≤ n → n ≤ 7680 → length slip ≡ 8 * n → SlipFor (bookIn bundle) (roleAsked q) (q .person) (linesOf slip n)
+    pub slip-clear : (n : ℕ) → 1 ≤ n → n ≤ slipLines → length slip ≡ 8 * n → SlipFor (bookIn bundle) (roleAsked q) (q .person) (linesOf slip n)
         → Clear (slipRows (bookIn bundle) (roleAsked q) (q .person) slip)
     slip-clear n some-line most-lines size shown =
         let sound = holding-sound bundle s h in

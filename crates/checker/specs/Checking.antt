@@ -8,6 +8,7 @@ use Rattle.rt0.specs.Credential.{Role}
 use Rattle.rt0.specs.Book.{Book, item}
 use Rattle.rt0.specs.Slip.{_∋_, stated}
 use Rattle.rt0.specs.Bytes.{linesOf}
+use Rattle.rt0.specs.Sizes.{slipBytes}
 use Rattle.base.specs.Refusals.{Refusal, given, clear, Test, test, zeroIf, lowestFromOne, first}
 use Rattle.bundle.specs.declared.question.Question.{Question}
 use Rattle.bundle.specs.declared.read.Reading.{Reading}
@@ -21,7 +22,7 @@ use Rattle.checker.specs.Premise.{sameFact, lineWrong}
 
 -- the slip's length is 0, above 61,440 or no multiple of 8
 abbrev pub slipLengthWrong : ℕ → Bool
-slipLengthWrong n = eqb n 0 || ltb 61440 n || not (eqb (n % 8) 0)
+slipLengthWrong n = eqb n 0 || ltb slipBytes n || not (eqb (n % 8) 0)
 
 -- the last of n lines states that D is in ρ
 abbrev pub lastStates : Book → Role → ℕ → List ℕ → ℕ → Bool

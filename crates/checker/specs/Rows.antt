@@ -10,6 +10,7 @@ use Rattle.rt0.specs.Credential.{Role}
 use Rattle.rt0.specs.Book.{Book}
 use Rattle.rt0.specs.Slip.{Line, _∋_, Says, RightLine, RightSlip}
 use Rattle.rt0.specs.Bytes.{linesOf}
+use Rattle.rt0.specs.Sizes.{slipBytes}
 use Rattle.base.specs.Refusals.{Row, row, AtZero, FromOne, Judged}
 use Rattle.bundle.specs.declared.question.Question.{Question}
 use Rattle.bundle.specs.Rows.{readerRows}
@@ -24,7 +25,7 @@ linesIn slip = linesOf slip (length slip / 8)
 
 -- slip length is 0, above 61,440 or no multiple of 8
 abbrev pub SlipLengthWrong : ℕ → Type 0
-SlipLengthWrong n = (n ≡ 0) ⊎ ((61440 < n) ⊎ (n % 8 ≡ 0 → ⊥))
+SlipLengthWrong n = (n ≡ 0) ⊎ ((slipBytes < n) ⊎ (n % 8 ≡ 0 → ⊥))
 
 -- line i, counted from 0, breaks the slip's rules
 pub record Breaks (book : Book) (lines : List Line) (i : ℕ) : Type 0 where

@@ -6,6 +6,7 @@ use mathlib.Core.List.{List}
 use lib.ListN.{length}
 use Rattle.rt0.specs.Slip.{SlipFor}
 use Rattle.rt0.specs.Bytes.{linesOf}
+use Rattle.rt0.specs.Sizes.{slipLines}
 use Rattle.bundle.specs.declared.read.Sizes.{Sizes}
 use Rattle.bundle.specs.declared.question.Question.{Question}
 use Rattle.bundle.specs.Held.{bookIn}
@@ -16,6 +17,6 @@ pub record Shown (bundle : List ℕ) (q : Question) (slip : List ℕ) (n : ℕ) 
   pub sizes : Sizes
   pub asked : Asked bundle sizes q
   pub some-line : 1 ≤ n
-  pub most-lines : n ≤ 7680
+  pub most-lines : n ≤ slipLines
   pub size : length slip ≡ 8 * n
   pub right : SlipFor (bookIn bundle) (roleAsked q) (q .person) (linesOf slip n)

@@ -1,6 +1,7 @@
 // The checker's answer: the reader's refusal, or the question's, or the slip's, or acceptance with the number of lines.
 ghost use mathlib.Core.Path.{_≡_};
 ghost use Prim.Native.Nat.{_≤_};
+ghost use Rattle.rt0.specs.Sizes.{slipLines};
 ghost use Rattle.base.specs.Lowest.{lowest};
 ghost use Rattle.bundle.specs.Rows.{Accepts};
 ghost use Rattle.bundle.specs.Held.{bookIn};
@@ -18,6 +19,7 @@ use bundle::read::Reading;
 use bundle::read::Sizes;
 use bundle::read::read;
 use records::form::Role;
+use rt0::Slip;
 
 // What the checker answers.
 pub enum Checked {
@@ -29,7 +31,7 @@ pub enum Checked {
 
 // The first line, counted from 0, that is wrong, whichever premise shows it; or the number of lines.
 fn first_broken(bundle: &[u8], sizes: Sizes, slip: &[u8], lines: usize) -> usize
-    requires { ⌜ Accepts (now bundle) sizes × (lines ≤ 7680) ⌝ }
+    requires { ⌜ Accepts (now bundle) sizes × (lines ≤ slipLines) ⌝ }
     ensures { λ r. ⌜ r ≡ lowest (lineWrong (bookIn (now (bundle .entry))) (now (slip .entry))) lines ⌝ }
 {
     let mut i: usize = 0;
@@ -53,7 +55,7 @@ fn check_slip(bundle: &[u8], sizes: Sizes, question: Question, slip: &[u8]) -> C
         (slipTests (bookIn (now (bundle .entry))) (roleAsked question) (question .person) (now (slip .entry))) ⌝ }
 {
     let size = slip.len();
-    if (size == 0) | (Line::SIZE * Line::MOST < size) | (size % Line::SIZE != 0) {
+    if (size == 0) | (Line::SIZE * Slip::LINES < size) | (size % Line::SIZE != 0) {
         return Checked::Refused {
             number: 9,
             place: 0,

@@ -7,6 +7,7 @@ ghost use Rattle.rt0.specs.Credential.{_·_};
 ghost use Rattle.rt0.specs.Book.{item};
 ghost use Rattle.rt0.specs.Slip.{_∋_, stated as statedOf};
 ghost use Rattle.rt0.specs.Bytes.{lineFrom, linesOf};
+ghost use Rattle.rt0.specs.Sizes.{slipLines};
 ghost use Rattle.records.specs.Form.{credentialOf};
 ghost use Rattle.bundle.specs.Rows.{Accepts};
 ghost use Rattle.bundle.specs.Held.{bookIn};
@@ -31,13 +32,11 @@ impl Line {
     pub const SIZE: usize = 8;
 
     pub const PREMISES: usize = 3;
-
-    pub const MOST: usize = 7680;
 }
 
 // Premise j of line i.
 pub(crate) fn premise(slip: &[u8], i: usize, j: usize) -> usize
-    requires { ⌜ (i < 7680) × (j < 3) ⌝ }
+    requires { ⌜ (i < slipLines) × (j < 3) ⌝ }
     ensures { λ r. ⌜ r ≡ premiseOf (lineFrom (now (slip .entry)) (8 * i)) j ⌝ }
 {
     let at = Line::SIZE * i + 2 + 2 * j;
@@ -57,7 +56,7 @@ pub(crate) fn credential(bundle: &[u8], sizes: Sizes, number: usize) -> Record
 
 // What line number p, from 1, of the first so many lines states.
 pub(crate) fn stated(bundle: &[u8], sizes: Sizes, slip: &[u8], lines: usize, p: usize) -> Claim
-    requires { ⌜ Accepts (now bundle) sizes × (lines ≤ 7680) ⌝ }
+    requires { ⌜ Accepts (now bundle) sizes × (lines ≤ slipLines) ⌝ }
     ensures { λ r. ⌜ factIn r ≡ statedOf (bookIn (now (bundle .entry))) (item (linesOf (now (slip .entry)) lines) p) ⌝ }
 {
     if outside(lines, p) {
@@ -164,7 +163,7 @@ pub(crate) fn wanted(credential: Record, member: usize, linked: usize, j: usize)
 
 // Whether premise j of line i is wrong.
 pub(crate) fn broken(bundle: &[u8], sizes: Sizes, slip: &[u8], i: usize, j: usize) -> bool
-    requires { ⌜ Accepts (now bundle) sizes × (i < 7680) × (j < 3) ⌝ }
+    requires { ⌜ Accepts (now bundle) sizes × (i < slipLines) × (j < 3) ⌝ }
     ensures { λ r. ⌜ r ≡ premiseWrongAt (bookIn (now (bundle .entry))) (now (slip .entry)) i j ⌝ }
 {
     let at = Line::SIZE * i;

@@ -13,6 +13,7 @@ use Rattle.rt0.specs.Membership.{Member}
 use Rattle.rt0.specs.Table.{Rounds}
 use Rattle.rt0.specs.Completion.{No, Unsure, Verdict, YES, NO, UNSURE, Answers}
 use Rattle.rt0.specs.Word.{bit, wordAt}
+use Rattle.rt0.specs.Sizes.{slipBytes}
 use Rattle.rt0.proofs.Least.{member-within}
 use Rattle.rt0.proofs.Possible.{all-present}
 use Rattle.base.specs.Refusals.{Row, Clear}
@@ -30,7 +31,7 @@ use Rattle.answers.specs.Answer.{Outcome, verdictNumber}
 use Rattle.checker.specs.declared.check.Checked.the-variants.{Accepted}
 use Rattle.checker.specs.Rows.{Checks}
 use Rattle.checker.proofs.Accepts.{written-accepted}
-use Rattle.words.specs.Sizes.{mostEntities, width, slipBytes}
+use Rattle.words.specs.Sizes.{mostEntities, width}
 use Rattle.search.specs.Promise.{Lent, lentRow, searchRows, AnsweredWith, Promise}
 use Rattle.search.specs.Written.{Written}
 use Rattle.search.proofs.Judging.{search-places, search-numbers}

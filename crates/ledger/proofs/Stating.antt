@@ -16,6 +16,7 @@ use Rattle.rt0.specs.Book.{Book, Numbers}
 use Rattle.rt0.specs.Slip.{Line, line, _∋_, stated, RightLine, SlipFor}
 use Rattle.rt0.specs.Bytes.{linesOf}
 use Rattle.rt0.specs.Word.{bit, giveWord}
+use Rattle.rt0.specs.Sizes.{slipLines}
 use Rattle.rt0.proofs.Items.{item-last}
 use Rattle.rt0.proofs.Least.{valid-head}
 use Rattle.rt0.proofs.SlipBytes.{length-linesOf}
@@ -25,7 +26,7 @@ use Rattle.bundle.specs.Layout.{recordsOf}
 use Rattle.bundle.specs.Access.{recordOf}
 use Rattle.bundle.specs.Held.{held, bookIn}
 use Rattle.bundle.proofs.Accepted.{holding-sound}
-use Rattle.words.specs.Sizes.{mostEntities, width, tableWords, factCount, slipLines}
+use Rattle.words.specs.Sizes.{mostEntities, width, tableWords, factCount}
 use Rattle.words.specs.Give.{giveOf, headPlace, useRecord}
 use Rattle.words.specs.Step.{headIn, stepOf, stepGives}
 use Rattle.words.proofs.Stepped.{step-place, step-gives}

@@ -8,12 +8,13 @@ use lib.ListN.{length, getD, drop}
 use Rattle.rt0.specs.Book.{Book}
 use Rattle.rt0.specs.Bytes.{linesOf}
 use Rattle.rt0.specs.Word.{bit}
+use Rattle.rt0.specs.Sizes.{slipBytes}
 use Rattle.bundle.specs.declared.read.Sizes.{Sizes}
 use Rattle.bundle.specs.Layout.{namesOf, recordsOf}
 use Rattle.bundle.specs.Rows.{Accepts}
 use Rattle.bundle.specs.Held.{bookIn}
 use Rattle.bundle.specs.Access.{recordOf}
-use Rattle.words.specs.Sizes.{mostEntities, tableWords, factCount, slipBytes}
+use Rattle.words.specs.Sizes.{mostEntities, tableWords, factCount}
 use Rattle.words.specs.Give.{giveOf, headPlace}
 use Rattle.words.specs.Step.{Stepped}
 use Rattle.ledger.specs.declared.Given.{Given}

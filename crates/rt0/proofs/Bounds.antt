@@ -9,6 +9,7 @@ use Rattle.rt0.specs.Credential.{Role, Credential, AllValid}
 use Rattle.rt0.specs.Membership.{Member}
 use Rattle.rt0.specs.Table.{Rounds, distinctHeads}
 use Rattle.rt0.specs.Book.{Book, Numbers}
+use Rattle.rt0.specs.Sizes.{mostRounds, slipLines}
 use Rattle.rt0.specs.Slip.{Line, _∋_, SlipFor, NoFactTwice}
 use Rattle.rt0.proofs.Heads.{heads-few}
 use Rattle.rt0.proofs.Settle.{rounds-few}
@@ -25,15 +26,15 @@ module _ (E R : ℕ) (entities : E ≤ 32) (cs : List Credential) (v : AllValid 
 
   -- and at most 7,680 in all, where a book has at most 240 numbers for the credentials
   module _ (book : Book) {most : ℕ} (numbers : Numbers book cs most) (few : most ≤ 240) where
-    heads-most : 32 * length (distinctHeads cs) ≤ 7680
+    heads-most : 32 * length (distinctHeads cs) ≤ mostRounds
     heads-most = omega (arith, heads-few numbers)
 
-    pub rounds-most : (n : ℕ) → Rounds cs n → n ≤ 7680
+    pub rounds-most : (n : ℕ) → Rounds cs n → n ≤ mostRounds
     rounds-most n h = omega (arith, rounds-by-heads n h, heads-most)
 
     -- a right slip that states no fact twice fits
     pub slip-most : (lines : List Line) (ρ : Role) (D : ℕ) → SlipFor book ρ D lines → NoFactTwice book lines
-        → (1 ≤ length lines) × (length lines ≤ 7680)
+        → (1 ≤ length lines) × (length lines ≤ slipLines)
     slip-most lines ρ D s once =
         let inside = says-within book lines (length lines) (ρ ∋ D) (s .last) in
         let short = slip-short E R cs v book (numbers .only) lines (s .right) once in
@@ -41,7 +42,7 @@ module _ (E R : ℕ) (entities : E ≤ 32) (cs : List Credential) (v : AllValid 
 
     -- for every member there is one
     pub slip-fits : (ρ : Role) (D : ℕ) → Member cs ρ D
-        → (lines : List Line) × SlipFor book ρ D lines × NoFactTwice book lines × (1 ≤ length lines) × (length lines ≤ 7680)
+        → (lines : List Line) × SlipFor book ρ D lines × NoFactTwice book lines × (1 ≤ length lines) × (length lines ≤ slipLines)
     slip-fits ρ D m =
         let (lines, s, once) = slip-complete E R cs v book numbers ρ D m in
         let fits = slip-most lines ρ D s once in

@@ -15,6 +15,7 @@ use Rattle.rt0.specs.Bytes.{linesOf}
 use Rattle.rt0.specs.Word.{bit, wordAt, roundWords, timesWords, noneWords}
 use Rattle.rt0.specs.Membership.{Member}
 use Rattle.rt0.specs.Table.{Rounds}
+use Rattle.rt0.specs.Sizes.{slipLines, slipBytes}
 use Rattle.rt0.proofs.Bits.{bit-zero}
 use Rattle.rt0.proofs.Tables.{rounds-member}
 use Rattle.rt0.proofs.Shown.{times-shows}
@@ -28,7 +29,7 @@ use Rattle.bundle.specs.Rows.{Accepts}
 use Rattle.bundle.specs.Held.{held, bookIn, holdingIn}
 use Rattle.bundle.specs.Question.{roleAsked, Asked}
 use Rattle.bundle.proofs.Accepted.{Contents, accepted-contents, holding-sound}
-use Rattle.words.specs.Sizes.{mostEntities, width, tableWords, factCount, slipLines, slipBytes}
+use Rattle.words.specs.Sizes.{mostEntities, width, tableWords, factCount}
 use Rattle.premises.specs.Fact.{factNumber, HasLine, HasFact, Backed}
 use Rattle.ledger.specs.Ledger.{Extended}
 use Rattle.words.specs.Step.{Steps}

@@ -9,6 +9,7 @@ use lib.ListN.{length}
 use lib.Dec.{ltb}
 use borrow.Author.Tests.{ltb-false, le-ltb}
 use Rattle.rt0.specs.Completion.{Open}
+use Rattle.rt0.specs.Sizes.{slipBytes}
 use Rattle.base.specs.Refusals.{Row, Due, Clear, Applies, AllOnePlace, AllNumbered, refused, passed}
 use Rattle.base.proofs.Flags.{or-false, Tells, or-tells-three, lt-tells, clash-flag}
 use Rattle.base.proofs.Refusals.{due-first, due-later, clear-both, one-place-both, numbered-both, zero-place}
@@ -26,7 +27,7 @@ use Rattle.bundle.proofs.Determined.{reads-refused}
 use Rattle.bundle.proofs.Questions.{question-tells, asked-right}
 use Rattle.answers.specs.Answer.{Outcome, refusal}
 use Rattle.tables.specs.declared.Filled.the-variants as filled
-use Rattle.words.specs.Sizes.{tableWords, slipBytes}
+use Rattle.words.specs.Sizes.{tableWords}
 use Rattle.tables.specs.Promise.{Tables, tables, tablesWrong, TablesWith}
 use Rattle.tables.proofs.Told.{refused-told}
 use Rattle.search.specs.Promise.{Lent, lent, LentShort, lentWrong, lentRow, searchRows, AnsweredWith, PromiseWith}

@@ -1,7 +1,8 @@
 -- As much lent memory as the search asks for: with it refusal 8 is never due.
 use Prim.Native.Nat.{_≤_}
 use lib.ListN.{length}
-use Rattle.words.specs.Sizes.{tableWords, slipBytes}
+use Rattle.rt0.specs.Sizes.{slipBytes}
+use Rattle.words.specs.Sizes.{tableWords}
 use Rattle.search.specs.Promise.{Lent}
 
 pub record Enough (m : Lent) : Type 0 where

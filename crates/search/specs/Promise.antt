@@ -13,13 +13,14 @@ use Rattle.rt0.specs.Table.{Rounds, distinctHeads}
 use Rattle.rt0.specs.Completion.{Open, Completable, Verdict, YES, NO, UNSURE, Answers}
 use Rattle.rt0.specs.Book.{Book}
 use Rattle.rt0.specs.Holding.{Holding}
+use Rattle.rt0.specs.Sizes.{slipBytes}
 use Rattle.base.specs.Refusals.{Row, row, AtZero, Judged}
 use Rattle.bundle.specs.declared.question.Question.{Question}
 use Rattle.bundle.specs.Rows.{readerRows}
 use Rattle.bundle.specs.Held.{openOf, holdingWith}
 use Rattle.bundle.specs.Question.{roleAsked, questionRow}
 use Rattle.answers.specs.Answer.{Outcome, refusal, answered}
-use Rattle.words.specs.Sizes.{mostEntities, tableWords, slipBytes}
+use Rattle.words.specs.Sizes.{mostEntities, tableWords}
 use Rattle.tables.specs.Promise.{TableLeft}
 use Rattle.search.specs.Written.{Written}
 

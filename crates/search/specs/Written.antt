@@ -7,7 +7,7 @@ use Rattle.rt0.specs.Credential.{Role}
 use Rattle.rt0.specs.Book.{Book}
 use Rattle.rt0.specs.Slip.{SlipFor, NoFactTwice}
 use Rattle.rt0.specs.Bytes.{linesOf}
-use Rattle.words.specs.Sizes.{slipLines}
+use Rattle.rt0.specs.Sizes.{slipLines}
 
 -- from byte 0 so many lines stand, 1 to 7,680, which are a slip for D in ρ and state no fact twice; the bytes past them stay, and there are
 -- as many as before

@@ -5,13 +5,13 @@ ghost use Rattle.tables.specs.Open.{openNames};
 ghost use Rattle.search.specs.Promise.{PromiseWith, Promise, lent};
 ghost use Rattle.search.specs.Concluded.{RefusedAs};
 use crate::answer::work_out;
-use crate::slip::Slip;
 use answers::Answer;
 use bundle::question::Question;
 use bundle::question::question_wrong;
 use bundle::read::Reading;
 use bundle::read::read;
 use bundle::read::sizes_of;
+use rt0::Slip;
 use words::table::Table;
 
 pub mod answer;

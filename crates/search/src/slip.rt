@@ -5,11 +5,12 @@ ghost use lib.ListN.{length};
 ghost use Rattle.rt0.specs.Membership.{Member};
 ghost use Rattle.rt0.specs.Table.{Rounds};
 ghost use Rattle.rt0.specs.Word.{bit, roundWords, timesWords};
+ghost use Rattle.rt0.specs.Sizes.{slipBytes};
 ghost use Rattle.bundle.specs.Layout.{recordsOf};
 ghost use Rattle.bundle.specs.Access.{recordOf};
 ghost use Rattle.bundle.specs.Held.{held, bookIn};
 ghost use Rattle.bundle.specs.Question.{roleAsked, Asked};
-ghost use Rattle.words.specs.Sizes.{mostEntities, width, tableWords, slipBytes};
+ghost use Rattle.words.specs.Sizes.{mostEntities, width, tableWords};
 ghost use Rattle.words.specs.Give.{useRecord};
 ghost use Rattle.premises.specs.Fact.{HasFact, Backed};
 ghost use Rattle.ledger.specs.Writing.{Writing, IsRecord, HasSteps, IsGiven, AtMostOneMore};
@@ -26,15 +27,6 @@ use words::step::Step;
 use words::step::write_steps;
 use words::table::Table;
 use words::table::copy;
-
-// The sizes of the longest slip: its lines, and its bytes, 8 for each line.
-pub struct Slip;
-
-impl Slip {
-    pub const LINES: usize = 7680;
-
-    pub const BYTES: usize = 8 * Slip::LINES;
-}
 
 // A record's turn: its number, the fact in question, and the lines so far.
 pub struct Turn {

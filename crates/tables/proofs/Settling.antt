@@ -11,6 +11,7 @@ use lib.ListN.{length}
 use Rattle.rt0.specs.Credential.{Credential}
 use Rattle.rt0.specs.Table.{distinctHeads}
 use Rattle.rt0.specs.Word.{roundWords, timesWords, Fits}
+use Rattle.rt0.specs.Sizes.{mostRounds}
 use Rattle.rt0.proofs.Heads.{heads-few}
 use Rattle.rt0.proofs.Shown.{times-fits}
 use Rattle.rt0.proofs.Settle.{room, room-falls, moving-few}
@@ -18,7 +19,7 @@ use Rattle.bundle.specs.declared.read.Sizes.{Sizes}
 use Rattle.bundle.specs.Rows.{Accepts}
 use Rattle.bundle.specs.Held.{held}
 use Rattle.bundle.proofs.Accepted.{Contents, accepted-contents, holding-sound}
-use Rattle.words.specs.Sizes.{mostEntities, width, mostRounds}
+use Rattle.words.specs.Sizes.{mostEntities, width}
 use Rattle.tables.specs.Rest.{AtRest}
 use Rattle.words.specs.Step.{Stepped, useSteps}
 use Rattle.tables.proofs.Held.{held-names}

@@ -5,7 +5,8 @@ use mathlib.Core.List.{List}
 use lib.ListN.{getD, take, drop}
 use Rattle.rt0.specs.Credential.{Credential}
 use Rattle.rt0.specs.Word.{Settled, Fits}
-use Rattle.words.specs.Sizes.{mostEntities, width, tableWords, mostRounds}
+use Rattle.rt0.specs.Sizes.{mostRounds}
+use Rattle.words.specs.Sizes.{mostEntities, width, tableWords}
 
 -- from the words start the rounds come to rest at the words ws, after so many rounds; the words are sets of entities up to E
 pub record AtRest (E : ℕ) (cs : List Credential) (start : List ℕ) (rounds : ℕ) (ws : List ℕ) : Type 0 where

@@ -1,5 +1,4 @@
--- The sizes of the tables and of the slip, each named once for definitions, contracts, laws and proofs; Table and Slip name them for the
--- code. They are plain numerals, so that arithmetic sees them, and each says how it follows from those before it.
+-- The sizes of the tables, each named once for definitions, contracts, laws and proofs; Table names them for the code. They are plain numerals, so that arithmetic sees them, and each says how it follows from those before it.
 use Prim.Native.Nat.{ℕ}
 use Rattle.bundle.specs.Edition.{mostNames}
 
@@ -22,15 +21,3 @@ factCount = 32768
 -- the values that a part of a step can have: more than the number of words
 abbrev pub stepPart : ℕ
 stepPart = 4096
-
--- the most rounds: mostEntities for each of 240 credentials
-abbrev pub mostRounds : ℕ
-mostRounds = 7680
-
--- the lines of the longest slip: mostEntities for each of 240 credentials
-abbrev pub slipLines : ℕ
-slipLines = 7680
-
--- its bytes: 8 for each line
-abbrev pub slipBytes : ℕ
-slipBytes = 61440

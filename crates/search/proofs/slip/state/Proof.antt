@@ -1,6 +1,6 @@
 -- `search::slip::state` meets its contract.
 use Prim.Native.Nat.{_<_}
-use Rattle.words.specs.Sizes.{slipLines}
+use Rattle.rt0.specs.Sizes.{slipLines}
 use Rattle.ledger.proofs.Steps.{none-more}
 use Rattle.ledger.proofs.Stating.{number-most, line-room, line-more}
 use native.Mathlib.Omega.{arith}
