@@ -53,7 +53,8 @@ static uint64_t append_all(struct buffer bundle, uint64_t result, const uint8_t 
 
 static void chain_case(const uint8_t *head, struct buffer bundle) {
     uint32_t marks_bytes = number(head + 9), records_bytes = number(head + 13), first = number(head + 17);
-    if (records_bytes % PORTERTRUNK_RECORD_BYTES != 0 || first > records_bytes / PORTERTRUNK_RECORD_BYTES) STOP("harness: no chain\n");
+    if (records_bytes % PORTERTRUNK_RECORD_BYTES != 0 || first > records_bytes / PORTERTRUNK_RECORD_BYTES)
+        STOP("harness: no chain\n");
     uint8_t *marks = take_input(marks_bytes), *records = take_input(records_bytes);
     uint32_t written = first * PORTERTRUNK_RECORD_BYTES;
     uint64_t result = portertrunk_write(head[2], head[3], marks, marks_bytes, records, written, bundle.at, bundle.bytes);
