@@ -5,7 +5,7 @@ use native.Mathlib.Omega.{arith}
 use borrow.Author.Tests.{lt-ltb, le-ltb}
 use mathlib.Core.Path.{_≡_, refl, ap, sym, _∙_}
 use mathlib.Core.List.{List, [], _∷_, _++_, append-nil, append-assoc}
-use lib.ListN.{length, take, drop, set, replicate, length-set, length-append, take-append-drop}
+use lib.ListN.{length, drop, set, replicate, length-set, length-append, take-append-drop}
 use lib.Seq.{take-suc-set, drop-set-lt, drop-drop, length-take-le}
 use Rattle.answers.specs.declared.line.Text.{Text}
 use Rattle.answers.specs.Line.{capacity, messageOf, Holds, Extends}

@@ -10,7 +10,7 @@ use mathlib.Core.List.{List, [], _∷_, _++_, List·Memᴰ·not-nil, List·Mem�
 use borrow.Author.Tests.{le-ltb}
 use lib.ListN.{length, length-append, getElem?}
 use Rattle.rt0.specs.Credential.{Credential, Valid, AllValid, IsEntity, _∈_}
-use Rattle.rt0.specs.Book.{item, Numbers}
+use Rattle.rt0.specs.Book.{item}
 use Rattle.rt0.specs.Holding.{SoundHolding}
 use Rattle.rt0.proofs.Books.{book-numbers}
 use Rattle.rt0.proofs.Items.{item-append, item-last}

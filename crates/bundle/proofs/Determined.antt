@@ -1,12 +1,10 @@
 -- The promise of the reader determines its answer: any two answers that keep it are equal.
-use Prim.Native.Nat.{ℕ, _≤_}
-use mathlib.Core.Path.{_≡_, refl, sym, ap, _∙_}
-use mathlib.Core.Logic.{_⊎_, inl, inr}
+use Prim.Native.Nat.{ℕ}
+use mathlib.Core.Path.{_≡_, sym, ap, _∙_}
 use mathlib.Core.List.{List}
 use native.Mathlib.Omega.{arith}
 use Rattle.base.specs.Refusals.{Clear, Due, refused, passed}
 use Rattle.base.proofs.Refusals.{due-unique, due-clear, due-number}
-use Rattle.bundle.specs.declared.read.Sizes.{Sizes}
 use Rattle.bundle.specs.declared.read.Reading.{Reading}
 use Rattle.bundle.specs.declared.read.Reading.the-variants.{Accepted, Refused}
 use Rattle.bundle.specs.Layout.{sizesIn}

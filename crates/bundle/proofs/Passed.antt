@@ -1,10 +1,10 @@
 -- What it says that no row of the reader's table applies, test by test, in both directions.
 use Prim.Native.Nat.{ℕ, _-_}
 use mathlib.Core.Path.{_≡_, refl, sym}
-use mathlib.Core.Bool.{Bool, true, false, not, true≢false}
+use mathlib.Core.Bool.{Bool, true, false, true≢false}
 use mathlib.Core.List.{List}
 use lib.ListN.{length}
-use lib.Dec.{eqb, ltb}
+use lib.Dec.{eqb}
 use Rattle.base.specs.Refusals.{Clear}
 use Rattle.base.proofs.Flags.{Tells, or-tells-three, eq-tells, lt-tells, not-tells, not-true-false, clash-flag}
 use Rattle.base.proofs.Lowest.{Missed}

@@ -6,12 +6,11 @@ use mathlib.Core.List.{List}
 use native.Mathlib.Omega.{arith}
 use Rattle.rt0.specs.Credential.{IsEntity, IsName}
 use Rattle.base.specs.Range.{outside}
-use Rattle.base.specs.Refusals.{Applies, OnePlace, Finds, zeroIf}
+use Rattle.base.specs.Refusals.{Applies}
 use Rattle.base.proofs.Flags.{Tells, or-tells-three, outside-tells, or-false, inside, inside-flag, not-true-false, clash-flag}
-use Rattle.base.proofs.Refusals.{zero-place, zero-finds}
 use Rattle.bundle.specs.declared.read.Sizes.{Sizes}
 use Rattle.bundle.specs.declared.question.Question.{Question}
-use Rattle.bundle.specs.Layout.{entitiesOf, namesOf, sizesIn}
+use Rattle.bundle.specs.Layout.{entitiesOf, namesOf}
 use Rattle.bundle.specs.Rows.{Accepts}
 use Rattle.bundle.specs.Question.{QuestionWrong, questionWrong, questionRow, Asked}
 

@@ -1,23 +1,23 @@
 -- What the reader computes is what its table of refusals says: the tests decide the rows. So its answer is the refusal that is due, or what
 -- block 0 says where no row applies; and any two answers that keep the promise are equal.
-use Prim.Native.Nat.{ℕ, _+_, _-_, _%_, _≤_}
-use mathlib.Core.Path.{_≡_, refl, sym, ap, _∙_}
+use Prim.Native.Nat.{ℕ, _-_, _%_, _≤_}
+use mathlib.Core.Path.{_≡_, refl}
 use mathlib.Core.Bool.{not}
 use mathlib.Core.Logic.{_↔_}
 use mathlib.Core.List.{List}
 use native.Mathlib.Omega.{arith}
 use lib.ListN.{length}
-use lib.Dec.{eqb, ltb}
+use lib.Dec.{eqb}
 use Rattle.base.specs.Refusals.{OnePlace, FromOne, AllOnePlace, AllNumbered, Due, Clear, Refusal, given, clear, refused, passed, first}
 use Rattle.base.specs.Refusals.{test, zeroIf, lowestFromOne}
 use Rattle.base.proofs.Flags.{or-tells-three, eq-tells, lt-tells, not-tells, flag-tells}
 use Rattle.base.proofs.Refusals.{zero-place, lowest-place, from-one-place, zero-finds, lowest-finds-from-one}
-use Rattle.base.proofs.Refusals.{Told, due, none-due, told-more, judged-same, judged-exactly, judged-clear, judged-given, judged-refused}
+use Rattle.base.proofs.Refusals.{Told, due, none-due, told-more, judged-exactly, judged-clear, judged-given}
 use Rattle.bundle.specs.declared.read.Sizes.{Sizes}
 use Rattle.bundle.specs.declared.read.Reading.{Reading}
-use Rattle.bundle.specs.declared.read.Reading.the-variants.{Accepted, Refused}
+use Rattle.bundle.specs.declared.read.Reading.the-variants.{Accepted}
 use Rattle.block.specs.Block.{block}
-use Rattle.bundle.specs.Layout.{longestBundle, sizesIn, lengthWrong, blocks, recordsOf, firstWrong, blocksFor, badCheck, badBeside}
+use Rattle.bundle.specs.Layout.{longestBundle, lengthWrong, blocks, recordsOf, firstWrong, blocksFor, badCheck, badBeside}
 use Rattle.bundle.specs.Rows.{MistakeAt, recordRows, readerRows, numberOf, placeOf, Reads, Accepts}
 use Rattle.bundle.specs.Reading.{recordTests, besideTests, countTests, firstTests, checkTests, readerTests, readBy, readOf, readingFor}
 use Rattle.bundle.specs.Each.{eachPlace}

@@ -2,7 +2,7 @@
 ghost use mathlib.Core.Path.{_≡_};
 ghost use Prim.Native.Nat.{_+_, _*_, _<_, _≤_};
 ghost use lib.ListN.{length};
-ghost use Rattle.bundle.specs.Layout.{recordsOf, blocksFor, blocks as blocksOf, sizesIn};
+ghost use Rattle.bundle.specs.Layout.{blocksFor, blocks as blocksOf, sizesIn};
 ghost use Rattle.bundle.specs.Rows.{Reads};
 ghost use Rattle.bundle.specs.Reading.{readBy, recordTests, besideTests, countTests, firstTests};
 use crate::checks::bad_checks;

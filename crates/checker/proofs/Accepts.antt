@@ -1,38 +1,35 @@
 -- A slip is accepted exactly when it shows, by RT0's definition over the bundle's credentials, what is asked. So what is accepted is
 -- a membership; every membership has a slip that is accepted; what is accepted stays accepted when credentials are appended; and any
 -- two answers that keep the promise are equal.
-use Prim.Native.Nat.{ℕ, zero, suc, _+_, _*_, _/_, _%_, _≤_, _<_}
+use Prim.Native.Nat.{ℕ, zero, suc, _+_, _*_, _/_, _≤_, _<_}
 use native.Mathlib.Omega.{arith}
 use mathlib.Core.Path.{_≡_, refl, sym, ap, _∙_}
-use mathlib.Core.Bool.{true, false}
-use mathlib.Core.Logic.{_↔_, inl, inr, ⊎-elim}
-use mathlib.Core.List.{List, [], _∷_, _++_, append-nil}
+use mathlib.Core.Logic.{_↔_}
+use mathlib.Core.List.{List, [], _++_, append-nil}
 use lib.ListN.{length, take, getD}
 use lib.Seq.{getD-take, length-take-le}
 use Rattle.rt0.specs.Credential.{Credential, _∈_}
 use Rattle.rt0.specs.Membership.{Member}
 use Rattle.rt0.specs.Book.{Keeps}
-use Rattle.rt0.specs.Slip.{SlipFor, Says, _∋_}
+use Rattle.rt0.specs.Slip.{SlipFor}
 use Rattle.rt0.specs.Bytes.{lineFrom, linesOf, bytesOf}
 use Rattle.rt0.specs.Sizes.{slipLines, slipBytes}
 use Rattle.rt0.proofs.Slips.{slip-sound, slip-lasts}
 use Rattle.rt0.proofs.Books.{book-keeps}
-use Rattle.rt0.proofs.SlipBytes.{length-bytesOf, linesOf-bytesOf, bytesOf-small, length-linesOf}
+use Rattle.rt0.proofs.SlipBytes.{length-bytesOf, linesOf-bytesOf, bytesOf-small}
 use Rattle.rt0.proofs.Bounds.{slip-fits}
-use Rattle.base.specs.Refusals.{Clear, refused, passed}
-use Rattle.base.proofs.Flags.{not-true-false}
-use Rattle.base.proofs.Refusals.{clear-first, clear-later, clear-both, due-number, judged-given, judged-same}
+use Rattle.base.specs.Refusals.{refused, passed}
+use Rattle.base.proofs.Refusals.{clear-first, clear-later, clear-both, due-number}
 use Rattle.bundle.specs.declared.read.Sizes.{Sizes}
 use Rattle.bundle.specs.declared.question.Question.{Question}
-use Rattle.bundle.specs.Layout.{sizesIn, entitiesOf, namesOf}
+use Rattle.bundle.specs.Layout.{sizesIn, entitiesOf}
 use Rattle.bundle.specs.Rows.{readerRows, Accepts}
 use Rattle.bundle.specs.Held.{held, bookIn}
-use Rattle.bundle.specs.Question.{roleAsked, questionRow, Asked}
+use Rattle.bundle.specs.Question.{roleAsked, Asked}
 use Rattle.bundle.proofs.Accepted.{accepted-contents, holding-sound}
 use Rattle.bundle.proofs.Questions.{asked-clear, clear-asked}
-use Rattle.checker.specs.declared.check.Checked.{Checked}
-use Rattle.checker.specs.declared.check.Checked.the-variants.{Accepted, Refused}
-use Rattle.checker.specs.Rows.{linesIn, slipRows, checkerRows, Checks}
+use Rattle.checker.specs.declared.check.Checked.the-variants.{Accepted}
+use Rattle.checker.specs.Rows.{checkerRows, Checks}
 use Rattle.checker.specs.Shown.{Shown}
 use Rattle.checker.proofs.Refusals.{later, checker-numbers, slip-clear, clear-slip}
 

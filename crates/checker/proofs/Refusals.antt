@@ -1,24 +1,23 @@
 -- What the checker computes is what its table of refusals says; and any two answers that keep the promise are equal.
-use Prim.Native.Nat.{ℕ, suc, _+_, _*_, _/_, _%_, _<_, _≤_}
+use Prim.Native.Nat.{ℕ, suc, _*_, _/_, _<_, _≤_}
 use mathlib.Core.Path.{_≡_, refl, sym, ap, _∙_}
 use mathlib.Core.Bool.{Bool, true, false, cond, not}
 use mathlib.Core.Logic.{_↔_, inl, inr, ⊎-elim}
-use mathlib.Core.Option.{some}
-use mathlib.Core.List.{List, [], _∷_, _++_}
+use mathlib.Core.List.{List, [], _∷_}
 use native.Mathlib.Decide.{decLt}
 use native.Mathlib.Omega.{arith}
-use lib.ListN.{length, take}
-use Rattle.rt0.specs.Credential.{Role, _·_, Credential, AllValid}
+use lib.ListN.{length}
+use Rattle.rt0.specs.Credential.{Role, Credential, AllValid}
 use Rattle.rt0.specs.Book.{Book, NamesOnly}
-use Rattle.rt0.specs.Slip.{Line, _∋_, Says, RightLine, RightSlip, SlipFor}
+use Rattle.rt0.specs.Slip.{Line, _∋_, Says, RightSlip, SlipFor}
 use Rattle.rt0.specs.Bytes.{lineFrom, linesOf}
 use Rattle.rt0.specs.Sizes.{slipLines, slipBytes}
-use Rattle.rt0.proofs.SlipBytes.{length-linesOf, linesOf-at}
+use Rattle.rt0.proofs.SlipBytes.{linesOf-at}
 use Rattle.base.specs.Lowest.{LowestBelow, lowest}
 use Rattle.base.specs.Refusals.{Row, AllOnePlace, AllNumbered, OnePlace, FromOne, Finds, Due, Clear, Refusal, test, zeroIf, lowestFromOne, given, clear, refused, passed, first}
 use Rattle.base.proofs.Flags.{Tells, or-tells-three, eq-tells, lt-tells, not-tells, not-true-false, clash-flag}
 use Rattle.base.proofs.Lowest.{Missed}
-use Rattle.base.proofs.Refusals.{zero-place, from-one-place, lowest-place, zero-finds, lowest-finds-from-one, finds-as}
+use Rattle.base.proofs.Refusals.{zero-place, from-one-place, zero-finds, lowest-finds-from-one, finds-as}
 use Rattle.base.proofs.Refusals.{one-place-both, numbered-both, due-first, due-later, due-number, due-clear, due-unique}
 use Rattle.base.proofs.Refusals.{judged-exactly, judged-clear}
 use Rattle.base.proofs.Refusals.{Told, due, none-due, told-more, clear-both, clear-first, clear-later, none-missed, missed-no}

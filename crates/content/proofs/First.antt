@@ -16,7 +16,6 @@ use Rattle.block.specs.Block.{block}
 use Rattle.bundle.specs.Edition.{mostNames, editionFor}
 use Rattle.bundle.specs.Layout.{firstByteWrong, entitiesOf, namesOf, firstWrong, recordsOf, recordBytes}
 use Rattle.bundle.specs.Access.{markOf}
-use Rattle.bundle.proofs.Parts.{first-byte}
 use Rattle.bundle.proofs.FirstBlock.{edition-right, entities-right, mark-right, behind-right}
 use Rattle.content.specs.Content.{Content, contentOf, ValidContent, count, markIn}
 use Rattle.content.specs.Encode.{editionOf, firstByte}

@@ -1,7 +1,6 @@
 -- The small house as a content: the checks of its two blocks are those of the paper, 101 and 6,884.
-use Prim.Native.Nat.{ℕ}
 use mathlib.Core.Path.{_≡_, refl}
-use mathlib.Core.List.{List, [], _∷_, _++_}
+use mathlib.Core.List.{[], _∷_, _++_}
 use lib.ListN.{replicate}
 use Rattle.block.specs.Block.{weighed, checkOf}
 use Rattle.records.specs.Bytes.{twelve}

@@ -1,7 +1,7 @@
 -- The reader worked out in one pass over each block. Its definitions fetch every byte by its number, which takes long on a list of bytes
 -- that is written out. Here each block is gone through from its first byte; a bundle that passes is accepted, and its checks are those
 -- that the passes give.
-use Prim.Native.Nat.{ℕ, zero, suc, _+_, _-_, _*_, _/_, _%_, _≤_, _<_}
+use Prim.Native.Nat.{ℕ, zero, suc, _+_, _-_, _*_, _%_, _≤_, _<_}
 use native.Mathlib.Nat.{add-zero, zero-add}
 use native.Mathlib.Omega.{arith}
 use mathlib.Core.Path.{_≡_, refl, sym, ap, _∙_}

@@ -1,7 +1,6 @@
 -- The checker's answers to the paper's slip for P1 and to its variants are those that the paper gives: one equation computed over the list.
 -- P1's bundle is read once, in Cases; what is computed here is over the credentials that it holds.
 use mathlib.Core.Path.{_≡_, refl, sym}
-use mathlib.Core.Bool.{false}
 use mathlib.Core.List.{List, map, zipWith, List·Memᴰ·head}
 use Rattle.rt0.specs.Credential.{_·_, _∈_}
 use Rattle.rt0.specs.Book.{bookOf}
@@ -9,7 +8,6 @@ use Rattle.rt0.specs.Slip.{Line}
 use Rattle.rt0.specs.Bytes.{linesOf, bytesOf}
 use Rattle.rt0.specs.House.{Archive, Nina, signer, house, cases}
 use Rattle.base.specs.Lowest.{lowest}
-use Rattle.base.specs.Refusals.{first}
 use Rattle.bundle.specs.declared.read.Sizes.{Sizes}
 use Rattle.bundle.specs.Rows.{Accepts}
 use Rattle.bundle.specs.Held.{held as heldIn}

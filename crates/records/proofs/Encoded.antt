@@ -1,13 +1,12 @@
 -- The reader of records is not too strict: the twelve bytes of a valid credential, of each form and with two parts or three, have no mistake,
 -- and they are that credential again. So a record has no mistake exactly if its twelve bytes are those of a valid credential.
-use Prim.Native.Nat.{ℕ, _≤_}
+use Prim.Native.Nat.{ℕ}
 use mathlib.Core.Path.{_≡_, refl, sym, _∙_}
 use mathlib.Core.Bool.{false}
 use mathlib.Core.Logic.{_↔_}
 use mathlib.Core.List.{List, [], _∷_, List·Memᴰ·head, List·Memᴰ·tail}
 use native.Mathlib.Omega.{arith}
-use lib.ListN.{length}
-use Rattle.rt0.specs.Credential.{Role, _·_, entity, role, link, intersection, Credential, _⟵_, IsEntity, IsName, ValidRole, Valid, _∈_}
+use Rattle.rt0.specs.Credential.{_·_, entity, role, link, intersection, Credential, _⟵_, IsEntity, IsName, Valid}
 use Rattle.base.specs.Range.{outside}
 use Rattle.base.specs.Lowest.{lowest}
 use Rattle.base.proofs.Flags.{inside-flag}

@@ -1,15 +1,14 @@
 -- The mistake of a record: the first way in which some byte is wrong is the row that is due, and there is only one.
 use Prim.Native.Nat.{ℕ, zero, suc, _+_, _<_, _≤_}
 use mathlib.Core.Path.{_≡_, refl, sym, ap, _∙_}
-use mathlib.Core.Bool.{Bool, true, false, cond}
-use mathlib.Core.Logic.{_⊎_, inl, inr, _↔_}
-use mathlib.Core.List.{List, [], _∷_}
+use mathlib.Core.Bool.{true, false, cond}
+use mathlib.Core.Logic.{inl, inr, _↔_}
+use mathlib.Core.List.{List}
 use native.Mathlib.Omega.{arith}
 use lib.Dec.{eqb}
-use borrow.Author.Tests.{lt-ltb, le-ltb, ltb-true, ltb-false}
-use Rattle.base.specs.Lowest.{lowest, anyBelow}
-use Rattle.base.specs.Refusals.{row, AtZero, AllOnePlace, AllNumbered, Applies, Due, Clear, Judged, refused, passed}
-use Rattle.base.proofs.Lowest.{lowest-is, any-somewhere, any-true, any-false, clash}
+use borrow.Author.Tests.{le-ltb, ltb-true, ltb-false}
+use Rattle.base.specs.Refusals.{row, AtZero, AllOnePlace, AllNumbered, Applies, Due, refused, passed}
+use Rattle.base.proofs.Lowest.{lowest-is, any-somewhere, any-true, clash}
 use Rattle.base.proofs.Refusals.{zero-place, judged-same, judged-exactly}
 use Rattle.records.specs.declared.mistake.Mistake.{Mistake}
 use Rattle.records.specs.declared.mistake.Mistake.the-variants.{UnknownForm, NumberOfParts, EntityOutOfRange, NameOutOfRange, ByteNotZero, Nothing}

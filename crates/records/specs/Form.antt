@@ -4,7 +4,7 @@ use mathlib.Core.Bool.{cond}
 use mathlib.Core.Option.{Option, none, some}
 use mathlib.Core.List.{List, [], _∷_}
 use lib.Dec.{eqb}
-use Rattle.rt0.specs.Credential.{_·_, Body, entity, role, link, intersection, Credential, _⟵_, head}
+use Rattle.rt0.specs.Credential.{_·_, entity, role, link, intersection, Credential, _⟵_, head}
 use Rattle.rt0.specs.Credential.{Role as RT0Role}
 use Rattle.base.specs.Byte.{byteAt}
 use Rattle.records.specs.declared.form.Role.{Role}

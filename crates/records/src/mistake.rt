@@ -1,7 +1,6 @@
 // What is wrong with a record over so many entities and role names: the first of five kinds of mistake that some byte shows.
 ghost use mathlib.Core.Path.{_≡_};
 ghost use Rattle.base.specs.Lowest.{lowest};
-ghost use Rattle.base.specs.Byte.{byteAt};
 ghost use Rattle.records.specs.Kinds.{entityByte, nameByte, partsByte, wrongBy, firstOf};
 ghost use Rattle.records.specs.Mistake.{Mistaken, mistakeNumber, mistakeKind, recordWrong};
 use base::byte;

@@ -6,13 +6,13 @@ use mathlib.Core.Path.{_≡_, refl}
 use mathlib.Core.List.{List, []}
 use lib.ListN.{length, take, length-append}
 use lib.IntN.{ℤ}
-use Rattle.answers.specs.Line.{capacity, Holds}
+use Rattle.answers.specs.Line.{Holds}
 use Rattle.answers.specs.declared.line.Text.{Text}
 use Rattle.answers.proofs.Text.{one-text}
 use Rattle.input.specs.declared.Input.{Input}
 use Rattle.input.specs.declared.Input.the-variants.{Whole, Longer, Failed}
 use Rattle.said.specs.declared.Said.{Said}
-use Rattle.said.specs.Said.{shownBy, HoldsAllowed, PrintsLonger, RightlyBy, Rightly}
+use Rattle.said.specs.Said.{HoldsAllowed, PrintsLonger, RightlyBy, Rightly}
 
 -- whatever holds the output
 module _ (Shows : (List ℕ → Type 0) → Type 0) (problem : Text) (Prints : List ℕ → List ℕ → Type 0) (unreadable : List ℕ) (got : Input) (buffer : List ℕ) where

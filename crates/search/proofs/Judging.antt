@@ -1,7 +1,7 @@
 -- The order of the refusals 7 and 8 after the reader's own, and the promise of a whole answer from its stages.
-use Prim.Native.Nat.{ℕ, _≤_}
+use Prim.Native.Nat.{ℕ}
 use native.Mathlib.Omega.{arith}
-use mathlib.Core.Path.{_≡_, refl, sym, ap, _∙_}
+use mathlib.Core.Path.{_≡_, refl, sym, ap}
 use mathlib.Core.Bool.{Bool, true, false, cond, _||_}
 use mathlib.Core.Logic.{inl, inr, ⊎-elim}
 use mathlib.Core.List.{List, [], _∷_}
@@ -14,7 +14,6 @@ use Rattle.base.specs.Refusals.{Row, Due, Clear, Applies, AllOnePlace, AllNumbe
 use Rattle.base.proofs.Flags.{or-false, Tells, or-tells-three, lt-tells, clash-flag}
 use Rattle.base.proofs.Refusals.{due-first, due-later, clear-both, one-place-both, numbered-both, zero-place}
 use Rattle.bundle.specs.declared.read.Sizes.{Sizes}
-use Rattle.bundle.specs.declared.read.Reading.{Reading}
 use Rattle.bundle.specs.declared.read.Reading.the-variants as reading
 use Rattle.bundle.specs.declared.question.Question.{Question}
 use Rattle.bundle.specs.Layout.{entitiesOf, namesOf}

@@ -10,7 +10,6 @@ use Rattle.base.proofs.Flags.{or-true}
 use Rattle.types.specs.Name.{issuer-traces-none, issuer-traces-def, issuer-traces-all, subject-traces-none, subject-traces-all, tracesAll, tracesDef, subjectsTrace}
 use Rattle.sheet.specs.Sheet.{codeOf}
 use Rattle.sheet.specs.Types.{issuerSide, typeOf, typesBy}
-use Rattle.storage.specs.declared.typing.Sides.{Sides}
 use Rattle.storage.specs.Stored.{sidesOf}
 
 all-flag : (a d : Bool) → a ≡ tracesAll (cond a issuer-traces-all (cond d issuer-traces-def issuer-traces-none))

@@ -3,7 +3,7 @@ use Prim.Native.Nat.{ℕ, _≤_}
 use native.Mathlib.Omega.{arith}
 use mathlib.Core.Path.{_≡_, refl, sym, ap, _∙_}
 use mathlib.Core.Bool.{Bool, true, false, cond, _||_, true≢false}
-use mathlib.Core.Option.{Option, some}
+use mathlib.Core.Option.{some}
 use mathlib.Core.List.{List}
 use lib.Bits.{bitOr}
 use Rattle.rt0.specs.Credential.{Credential, Valid}
@@ -12,7 +12,6 @@ use Rattle.base.proofs.Flags.{Tells}
 use Rattle.records.specs.declared.form.Role.{Role}
 use Rattle.records.specs.declared.form.Record.{Record}
 use Rattle.records.specs.declared.form.Record.the-variants as variant
-use Rattle.records.specs.declared.form.Head.{Head}
 use Rattle.records.specs.declared.form.Head.the-variants.{Of, Nothing}
 use Rattle.records.specs.Form.{headOf, credentialOf}
 use Rattle.bundle.specs.declared.read.Sizes.{Sizes}

@@ -3,11 +3,10 @@ use Prim.Native.Nat.{ℕ, suc, _+_, _-_, _<_}
 use native.Mathlib.Numerals.{sub-one}
 use native.Mathlib.Decide.{decLt}
 use native.Mathlib.Omega.{arith}
-use mathlib.Core.Path.{_≡_, refl, sym, ap, ap₂, _∙_}
-use mathlib.Core.Bool.{Bool, true, false}
+use mathlib.Core.Path.{_≡_, sym, ap, ap₂, _∙_}
 use mathlib.Core.Logic.{_↔_, Iff·trans, Iff·symm}
 use mathlib.Core.List.{List, [], _∷_}
-use lib.ListN.{length, getD}
+use lib.ListN.{getD}
 use lib.Seq.{ext-getD, getD-drop}
 use Rattle.rt0.specs.Credential.{IsEntity}
 use Rattle.rt0.specs.Membership.{Assignment}
@@ -20,7 +19,6 @@ use Rattle.tables.specs.declared.Filled.{Filled}
 use Rattle.words.specs.Sizes.{mostEntities, width, tableWords}
 use Rattle.base.specs.Refusals.{Row, Clear, AllOnePlace, AllNumbered, Judged, refused, passed}
 use Rattle.base.proofs.Refusals.{due-clear, due-number, due-unique, clear-first}
-use Rattle.bundle.specs.Layout.{sizesIn}
 use Rattle.bundle.specs.Rows.{readerRows}
 use Rattle.bundle.specs.Held.{held}
 use Rattle.bundle.proofs.Determined.{some-sizes}

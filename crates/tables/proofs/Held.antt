@@ -6,17 +6,15 @@ use native.Mathlib.Omega.{arith}
 use mathlib.Core.Path.{_≡_, _∙_}
 use mathlib.Core.Option.{some}
 use mathlib.Core.List.{List}
-use lib.ListN.{length}
 use Rattle.rt0.specs.Credential.{_·_, Credential, head, Valid, AllValid, ValidRole, IsEntity, IsName}
 use Rattle.rt0.proofs.Books.{book-numbers}
 use Rattle.rt0.proofs.Least.{valid-head}
 use Rattle.bundle.specs.declared.read.Sizes.{Sizes}
-use Rattle.bundle.specs.Layout.{recordsOf}
 use Rattle.bundle.specs.Held.{held, bookIn}
 use Rattle.bundle.specs.Rows.{Accepts}
 use Rattle.bundle.specs.Access.{recordOf}
 use Rattle.records.specs.Form.{credentialOf}
-use Rattle.bundle.proofs.Accepted.{Contents, accepted-contents, length-credentials, record-credential, record-there}
+use Rattle.bundle.proofs.Accepted.{Contents, accepted-contents, record-credential, record-there}
 use Rattle.words.specs.Sizes.{mostEntities, width, tableWords}
 use Rattle.words.specs.Give.{headPlace}
 use Rattle.words.proofs.Wider.{role-wider, valid-wider}

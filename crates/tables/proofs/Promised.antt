@@ -2,7 +2,7 @@
 -- the refusals.
 use Prim.Native.Nat.{ℕ, _-_, _+_, _*_, _^_, _<_, _≤_, min}
 use native.Mathlib.Omega.{arith}
-use mathlib.Core.Path.{_≡_, refl, sym, ap, _∙_, subst}
+use mathlib.Core.Path.{_≡_, refl, sym, ap, subst}
 use mathlib.Core.Bool.{Bool, true, false, _&&_, true≢false}
 use mathlib.Core.Logic.{Iff·symm, inl}
 use mathlib.Core.List.{List, [], _∷_, _++_}
@@ -10,17 +10,17 @@ use lib.ListN.{take, drop, length, getD, length-take, length-drop}
 use lib.Dec.{eqb, ltb}
 use borrow.Author.Tests.{ltb-false, eqb-true}
 use lib.Seq.{take-all, take-at, drop-at, getD-take}
-use Rattle.rt0.specs.Credential.{_·_, Credential, IsEntity, IsName}
+use Rattle.rt0.specs.Credential.{_·_, Credential}
 use Rattle.rt0.specs.Membership.{Assignment, Member}
 use Rattle.rt0.specs.Table.{distinctHeads}
 use Rattle.rt0.specs.Table.{Rounds as IsRounds}
 use Rattle.rt0.specs.Completion.{Open, openWith, Completable}
-use Rattle.rt0.specs.Word.{wordAt, place, noneWords, openWords, Shows}
+use Rattle.rt0.specs.Word.{place, noneWords, openWords, Shows}
 use Rattle.rt0.proofs.Possible.{Possible, possible-completable}
 use Rattle.rt0.proofs.Settle.{settled-rounds, settled-sure, settled-possible}
 use Rattle.rt0.proofs.Bounds.{rounds-by-heads}
 use Rattle.rt0.proofs.Shown.{place-within, shows-as}
-use Rattle.base.specs.Refusals.{Applies, AllOnePlace, AllNumbered, refused, passed}
+use Rattle.base.specs.Refusals.{AllOnePlace, AllNumbered, refused, passed}
 use Rattle.base.proofs.Flags.{or-false, Tells, or-tells, lt-tells, clash-flag}
 use Rattle.base.proofs.Refusals.{due-first, due-later, clear-both, one-place-both, numbered-both, zero-place}
 use Rattle.bundle.specs.Layout.{entitiesOf, namesOf}
@@ -31,14 +31,13 @@ use Rattle.bundle.proofs.Refusals.{reader-places, reader-numbers}
 use Rattle.bundle.proofs.Determined.{reads-refused}
 use Rattle.bundle.proofs.Accepted.{Contents, accepted-contents}
 use Rattle.bundle.specs.declared.read.Sizes.{Sizes}
-use Rattle.tables.specs.declared.Filled.{Filled}
 use Rattle.tables.specs.declared.Filled.the-variants.{Rounds, Refused}
 use Rattle.words.specs.Sizes.{mostEntities, width, tableWords}
 use Rattle.words.specs.Give.{copiedOver}
 use Rattle.tables.specs.declared.start.OpenRoles.{OpenRoles}
 use Rattle.tables.specs.Rest.{AtRest, RestsIn}
 use Rattle.tables.specs.Open.{namesIn, openNames, nothingOpen, openedRoles, startWords}
-use Rattle.tables.specs.Promise.{Tables, tables, TableLeft, FilledWith, TablesShort, tablesWrong, shortRow, tableRows, TablesWith}
+use Rattle.tables.specs.Promise.{Tables, tables, TableLeft, TablesShort, tablesWrong, shortRow, tableRows, TablesWith}
 use Rattle.tables.proofs.Held.{held-entities, held-names}
 use Rattle.tables.proofs.Opened.{nothing-open, opened-start}
 

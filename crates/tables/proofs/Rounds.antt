@@ -5,20 +5,17 @@ use native.Mathlib.Nat.{le-refl}
 use native.Mathlib.Numerals.{add-one}
 use native.Mathlib.Omega.{arith}
 use mathlib.Core.Path.{_≡_, refl, ap, _∙_}
-use mathlib.Core.Option.{Option, none, some, Option·none-ne-some, Option·some-injective}
+use mathlib.Core.Option.{Option, some, Option·none-ne-some, Option·some-injective}
 use mathlib.Core.List.{List, [], _∷_, _++_}
-use lib.ListN.{length, take, getD, set, getElem?}
+use lib.ListN.{length, take, getD, getElem?}
 use lib.Seq.{take-all}
-use lib.Bits.{bitOr}
 use Rattle.rt0.specs.Credential.{Credential}
 use Rattle.rt0.specs.Word.{useWord, useWords, roundWords}
 use Rattle.rt0.proofs.Shown.{useWords-snoc}
 use Rattle.bundle.specs.declared.read.Sizes.{Sizes}
-use Rattle.records.specs.declared.form.Record.{Record}
 use Rattle.bundle.specs.Rows.{Accepts}
 use Rattle.bundle.specs.Held.{held}
 use Rattle.bundle.specs.Access.{recordOf}
-use Rattle.records.specs.Form.{credentialOf}
 use Rattle.bundle.specs.Layout.{recordsOf}
 use Rattle.bundle.proofs.Accepted.{accepted-contents, length-credentials}
 use Rattle.words.specs.Sizes.{width, tableWords}

@@ -1,7 +1,7 @@
 -- What the promise tells by the answer: rounds come from an accepted bundle, and a refusal with tables long enough is the reader's.
 use Prim.Native.Nat.{ℕ}
 use native.Mathlib.Omega.{arith}
-use mathlib.Core.Path.{_≡_, refl}
+use mathlib.Core.Path.{_≡_}
 use mathlib.Core.Bool.{false}
 use mathlib.Core.Logic.{inl, inr, ⊎-elim}
 use mathlib.Core.List.{List, [], _∷_}
@@ -14,7 +14,7 @@ use Rattle.bundle.specs.Rows.{readerRows, Accepts}
 use Rattle.bundle.specs.Held.{holdingWith}
 use Rattle.bundle.proofs.Determined.{some-sizes}
 use Rattle.tables.specs.declared.Filled.the-variants.{Rounds, Refused}
-use Rattle.tables.specs.Promise.{Tables, FilledWith, TablesShort, tablesWrong, shortRow, tableRows, TablesWith}
+use Rattle.tables.specs.Promise.{Tables, FilledWith, tablesWrong, shortRow, tableRows, TablesWith}
 use Rattle.tables.proofs.Promised.{short-tells, table-numbers}
 
 module _ (isOpen : Open) (bytes : List ℕ) (before after : Tables) where

@@ -11,7 +11,7 @@ use lib.Dec.{eqb}
 use Rattle.rt0.specs.Credential.{Role, _·_, nameOf, entity, intersection, Credential, _⟵_, head, _∈_}
 use Rattle.rt0.specs.Membership.{Assignment, Gives, Closed, Member, simple, common}
 use Rattle.rt0.proofs.Least.{member-least}
-use Rattle.types.specs.Name.{issuer-traces-def, issuer-traces-all, SubjectSide, subject-traces-none, subject-traces-all, NameType, Types, WellTyped}
+use Rattle.types.specs.Name.{issuer-traces-def, issuer-traces-all, SubjectSide, subject-traces-none, subject-traces-all, Types, WellTyped}
 use Rattle.types.specs.Body.{BodyIssuerTracesAll}
 use Rattle.types.specs.Typed.{StructurallyWellTyped, AllTyped, traced}
 

@@ -4,7 +4,7 @@ ghost use Prim.Native.Nat.{_+_, _*_, _<_, _≤_};
 ghost use mathlib.Core.List.{_++_};
 ghost use lib.ListN.{length as lengthOfList, take};
 ghost use Rattle.base.specs.Lowest.{lowest};
-ghost use Rattle.records.specs.Mistake.{mistakeKind, kindNumber, recordWrong};
+ghost use Rattle.records.specs.Mistake.{mistakeKind, kindNumber};
 ghost use Rattle.bundle.specs.Layout.{blocksFor};
 ghost use Rattle.bundle.specs.Rows.{Reads};
 ghost use Rattle.content.specs.Content.{markWrong, marksWrong, listed, wholeRecords};

@@ -1,5 +1,4 @@
 -- `search::refuse` meets its contract.
-use native.Mathlib.Omega.{arith}
 use borrow.Author.Needs.{needs}
 use Rattle.search.proofs.Judging.{refused-reader, refused-question, refused-memory}
 use Rattle.search.proofs.refuse.Statement.{statement}

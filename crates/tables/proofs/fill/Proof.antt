@@ -1,5 +1,4 @@
 -- `tables::fill` meets its contract: no names are opened, so that the roles of absent shelves are open alone.
-use mathlib.Core.Path.{subst}
 use denote.Ref.{now}
 use Rattle.tables.proofs.Opened.{open-alone}
 use borrow.Author.Needs.{needs}

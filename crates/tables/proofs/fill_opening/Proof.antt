@@ -1,6 +1,6 @@
 -- `tables::fill_opening` meets its contract.
 use native.Mathlib.Omega.{arith}
-use mathlib.Core.Path.{sym, _∙_}
+use mathlib.Core.Path.{_∙_}
 use denote.Ref.{now}
 use Rattle.bundle.proofs.Refusals.{reads-accepted}
 use Rattle.tables.proofs.Promised.{refused-read}

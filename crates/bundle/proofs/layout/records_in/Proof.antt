@@ -1,5 +1,4 @@
 -- `bundle::layout::records_in` meets its contract.
-use native.Mathlib.Omega.{arith}
 use borrow.Author.Needs.{needs}
 use Rattle.bundle.proofs.layout.records_in.Statement.{statement}
 use Rattle.bundle.proofs.layout.records_in.Tie as tie

@@ -1,7 +1,7 @@
 -- `bundle::read::read` meets its contract.
 use native.Mathlib.Omega.{arith}
 use denote.Ref.{now}
-use mathlib.Core.Path.{sym, _∙_}
+use mathlib.Core.Path.{_∙_}
 use lib.ListN.{length}
 use Rattle.bundle.proofs.Stages.{length-right, length-refused, length-passed, check-refused, check-passed}
 use Rattle.bundle.proofs.Refusals.{reads-as}

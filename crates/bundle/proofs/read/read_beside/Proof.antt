@@ -1,7 +1,7 @@
 -- `bundle::read::read_beside` meets its contract.
 use denote.Ref.{now}
-use mathlib.Core.Path.{sym, _∙_}
-use Rattle.bundle.proofs.Stages.{records-said, beside-refused, beside-passed}
+use mathlib.Core.Path.{_∙_}
+use Rattle.bundle.proofs.Stages.{beside-refused, beside-passed}
 use borrow.Author.Needs.{needs}
 use Rattle.bundle.proofs.read.read_beside.Statement.{statement}
 use Rattle.bundle.proofs.read.read_beside.Tie as tie

@@ -1,6 +1,6 @@
 -- `bundle::read::read_count` meets its contract.
 use denote.Ref.{now}
-use mathlib.Core.Path.{sym, _∙_}
+use mathlib.Core.Path.{_∙_}
 use Rattle.bundle.proofs.Stages.{count-refused, count-passed}
 use borrow.Author.Needs.{needs}
 use Rattle.bundle.proofs.read.read_count.Statement.{statement}

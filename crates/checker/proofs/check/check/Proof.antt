@@ -2,7 +2,7 @@
 use mathlib.Core.Path.{sym, _∙_}
 use native.Mathlib.Omega.{arith}
 use denote.Ref.{now}
-use Rattle.bundle.specs.Rows.{Reads, Accepts}
+use Rattle.bundle.specs.Rows.{Accepts}
 use Rattle.bundle.specs.Question.{question}
 use Rattle.bundle.proofs.Refusals.{reads-accepted}
 use Rattle.checker.proofs.Refusals.{reader-refused, question-refused, slip-answered}

@@ -1,5 +1,4 @@
 -- `search::answer::conclude` meets its contract.
-use native.Mathlib.Omega.{arith}
 use denote.Ref.{now}
 use borrow.Author.Needs.{needs}
 use Rattle.search.proofs.Concluding.{person-within, slip-due, conclude-yes, conclude-unsure, conclude-no}

@@ -1,5 +1,4 @@
 -- `search::answer::holds` meets its contract.
-use native.Mathlib.Omega.{arith}
 use borrow.Author.Needs.{needs}
 use Rattle.search.proofs.answer.holds.Statement.{statement}
 use Rattle.search.proofs.answer.holds.Tie as tie

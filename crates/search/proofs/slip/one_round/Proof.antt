@@ -1,11 +1,11 @@
 -- `search::slip::one_round` meets its contract. The invariant: the words said are those after the first records.
 use native.Mathlib.Omega.{arith}
 use borrow.Author.Needs.{needs}
-use Prim.Native.Nat.{suc, _+_, _-_, _*_, _/_, _%_, _<_, _≤_, min}
-use mathlib.Core.Path.{_≡_, refl, sym, ap, _∙_}
+use Prim.Native.Nat.{_-_, _≤_}
+use mathlib.Core.Path.{_≡_, sym, _∙_}
 use denote.Ref.{now}
 use Rattle.ledger.proofs.Steps.{extended-same, extended-twice, writing-on, progress-stop, progress-end}
-use lib.ListN.{length, length-set, take, drop}
+use lib.ListN.{length}
 use Rattle.words.specs.Sizes.{tableWords}
 use Rattle.words.proofs.Filling.{copied-same}
 use Rattle.tables.proofs.Rounds.{roundTo, round-none, round-more, round-all}

@@ -1,10 +1,10 @@
 -- `search::slip::state_members` meets its contract. The invariant: the members before i have lines.
 use native.Mathlib.Omega.{arith}
 use borrow.Author.Needs.{needs}
-use Prim.Native.Nat.{suc, _+_, _-_, _*_, _/_, _%_, _<_, _≤_, min}
-use mathlib.Core.Path.{_≡_, refl, sym, ap, _∙_}
+use Prim.Native.Nat.{_-_, _≤_}
+use mathlib.Core.Path.{sym, _∙_}
 use denote.Ref.{now}
-use Rattle.ledger.proofs.Steps.{none-more, one-at-most, bit-one, extended-same, extended-twice, writing-on, progress-stop, progress-end, stated-none, stated-more}
+use Rattle.ledger.proofs.Steps.{extended-same, extended-twice, writing-on, progress-stop, progress-end, stated-none, stated-more}
 use Rattle.words.specs.Sizes.{mostEntities}
 use Rattle.ledger.specs.Ledger.{Extended}
 use Rattle.bundle.specs.Held.{bookIn}

@@ -1,11 +1,11 @@
 -- `search::slip::use_record` meets its contract.
 use native.Mathlib.Omega.{arith}
 use borrow.Author.Needs.{needs}
-use Prim.Native.Nat.{suc, _+_, _-_, _*_, _/_, _%_, _<_, _≤_, min}
-use mathlib.Core.Path.{_≡_, refl, sym, ap, _∙_}
+use Prim.Native.Nat.{_-_, _<_}
+use mathlib.Core.Path.{_≡_}
 use denote.Ref.{now}
 use Rattle.ledger.proofs.Stating.{place-there, gained-place, gained-word, gained-use}
-use Rattle.ledger.proofs.Steps.{extended-same, extended-twice, writing-on, progress-stop, progress-end}
+use Rattle.ledger.proofs.Steps.{extended-same, progress-end}
 use Rattle.bundle.specs.Access.{recordOf}
 use Rattle.words.specs.Sizes.{tableWords}
 use Rattle.words.specs.Give.{giveOf, headPlace}

@@ -1,8 +1,7 @@
 -- `search::slip::write_rounds` meets its contract. The invariant: the words said are those after so many rounds.
-use native.Mathlib.Omega.{arith}
 use borrow.Author.Needs.{needs}
-use Prim.Native.Nat.{suc, _+_, _-_, _*_, _/_, _%_, _<_, _≤_, min}
-use mathlib.Core.Path.{_≡_, refl, sym, ap, _∙_}
+use Prim.Native.Nat.{_-_, _≤_}
+use mathlib.Core.Path.{_≡_, sym, _∙_}
 use denote.Ref.{now}
 use Rattle.rt0.specs.Word.{timesWords}
 use Rattle.words.specs.Sizes.{width}

@@ -1,5 +1,4 @@
 -- `search::slip::write_slip` meets its contract.
-use native.Mathlib.Omega.{arith}
 use borrow.Author.Needs.{needs}
 use denote.Ref.{now}
 use Rattle.rt0.specs.Word.{noneWords}

@@ -2,8 +2,8 @@
 use native.Mathlib.Omega.{arith}
 use borrow.Author.Needs.{needs}
 use Prim.Native.Nat.{_-_, _≤_}
-use mathlib.Core.Path.{_≡_, refl, sym, _∙_}
-use lib.ListN.{length, length-set}
+use mathlib.Core.Path.{_≡_, refl}
+use lib.ListN.{length}
 use denote.Ref.{now}
 use Rattle.words.proofs.Stepped.{use-none, use-more}
 use Rattle.words.specs.Step.{useSteps}

@@ -1,5 +1,4 @@
 -- `tables::round::use_step` meets its contract.
-use native.Mathlib.Omega.{arith}
 use borrow.Author.Needs.{needs}
 use Rattle.tables.proofs.round.use_step.Statement.{statement}
 use Rattle.tables.proofs.round.use_step.Tie as tie

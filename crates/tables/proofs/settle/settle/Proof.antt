@@ -2,8 +2,8 @@
 -- something. The measure is the room that is left.
 use native.Mathlib.Omega.{arith}
 use borrow.Author.Needs.{needs}
-use mathlib.Core.Path.{_≡_, refl, sym, ap, _∙_}
-use lib.ListN.{length, length-set, take, drop}
+use mathlib.Core.Path.{_≡_, _∙_}
+use lib.ListN.{length}
 use Rattle.rt0.proofs.Settle.{room}
 use Rattle.words.specs.Sizes.{width, tableWords}
 use Rattle.bundle.specs.Held.{held}

@@ -1,7 +1,5 @@
 -- `tables::settle::settle_from` meets its contract.
-use native.Mathlib.Omega.{arith}
 use borrow.Author.Needs.{needs}
-use lib.ListN.{length, length-set, take, drop}
 use Rattle.tables.proofs.Held.{held-entities}
 use Rattle.tables.proofs.Starts.{open-start}
 use Rattle.tables.proofs.settle.settle_from.Statement.{statement}

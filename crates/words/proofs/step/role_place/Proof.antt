@@ -1,6 +1,5 @@
 -- `words::step::role_place` meets its contract.
 use borrow.Author.Needs.{needs}
-use native.Mathlib.Omega.{arith}
 use Rattle.words.proofs.Given.{place-most}
 use Rattle.words.proofs.step.role_place.Statement.{statement}
 use Rattle.words.proofs.step.role_place.Tie as tie

@@ -1,5 +1,4 @@
 -- `words::step::step_of` meets its contract.
-use native.Mathlib.Omega.{arith}
 use borrow.Author.Needs.{needs}
 use mathlib.Core.Path.{_∙_}
 use Rattle.words.specs.Step.{stepOf}
