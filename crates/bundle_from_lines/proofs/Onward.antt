@@ -1,8 +1,8 @@
 -- A text that is longer than any right one is refused as every text that begins with it: a line that is wrong there stays wrong, and one that is
 -- right is there to its end.
-use Prim.Native.Nat.{ℕ, _+_, _*_, _<_, _≤_}
+use Prim.Native.Nat.{ℕ, _+_, _<_, _≤_}
 use native.Mathlib.Omega.{arith}
-use mathlib.Core.Path.{_≡_, refl, ap, sym, subst, _∙_}
+use mathlib.Core.Path.{_≡_, ap, sym, subst, _∙_}
 use mathlib.Core.Bool.{Bool, true, false, cond}
 use mathlib.Core.List.{List, [], _∷_, _++_, append-assoc}
 use lib.ListN.{length, length-append}
@@ -14,7 +14,7 @@ use Rattle.letters.specs.Lines.{textOf, inFront, linesOf, lineCount, lineAt}
 use Rattle.letters.specs.Rows.{FirstWrong}
 use Rattle.letters.proofs.Cut.{first-line}
 use Rattle.letters.proofs.Texts.{front-count, front-right}
-use Rattle.desk.proofs.Lengths.{text-short}
+use Rattle.letters.proofs.Places.{text-short}
 use Rattle.bundle_from_lines.specs.Input.{longestText}
 use Rattle.bundle_from_lines.proofs.Split.{Begins, Split, line-front, line-behind, front-part, right-begins, right-split}
 

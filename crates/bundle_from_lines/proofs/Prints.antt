@@ -21,6 +21,7 @@ use Rattle.letters.specs.Lines.{lineCount}
 use Rattle.letters.proofs.Texts.{text-count, text-one}
 use Rattle.letters.proofs.Reading.{range-tells, in-range}
 use Rattle.letters.proofs.Kept.{read-places}
+use Rattle.letters.proofs.Places.{text-short}
 use Rattle.answers.specs.Line.{Holds}
 use Rattle.input.specs.declared.Input.{Input}
 use Rattle.input.specs.declared.Input.the-variants.{Longer}
@@ -31,7 +32,6 @@ use Rattle.listed.specs.declared.Listing.{Listing}
 use Rattle.listed.specs.Listing.{ListsAllowed, RightlyListed}
 use Rattle.desk.specs.Answer.{Gives}
 use Rattle.desk.proofs.Given.{lists-others}
-use Rattle.desk.proofs.Lengths.{text-short}
 use Rattle.bundle_from_lines.specs.Input.{headBytes, longestText, longestInput, entitiesGiven, namesGiven, marksGiven, textGiven}
 use Rattle.bundle_from_lines.specs.Prints.{headRows, contentWith, BundleOf, bundleRows, BundleFrom, Prints, unreadable}
 use Rattle.bundle_from_lines.proofs.Made.{no-range, few-lines}

@@ -1,5 +1,3 @@
--- The laws that the desk's programs cite, and one of their refusals. Given: an answer by a table is what may be printed. Lengths: how long a text of
--- valid credentials is. Refused: the line of a refusal is no bundle.
+-- The laws that the desk's programs cite, and one of their refusals. Given: an answer by a table is what may be printed. Refused: the line of a refusal is no bundle.
 pub mod Given
-pub mod Lengths
 pub mod Refused

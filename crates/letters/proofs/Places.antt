@@ -25,7 +25,8 @@ use Rattle.letters.proofs.Texts.{text-count, records-size}
 use Rattle.letters.proofs.Listed.{valid-listed}
 use Rattle.letters.proofs.Kept.{no-both, read-numbers, write-numbers}
 
-text-short : (E R : ℕ) → E < 100 → R < 100 → (cs : List Credential) → AllValid E R cs → length (textOf cs) ≤ 39 * length cs
+-- the text of valid credentials has at most 39 bytes for each, over entities and names of one digit or two
+pub text-short : (E R : ℕ) → E < 100 → R < 100 → (cs : List Credential) → AllValid E R cs → length (textOf cs) ≤ 39 * length cs
 unfolding textOf
 text-short E R a b [] v = omega arith
 text-short E R a b (c ∷ cs) v =

@@ -6,7 +6,7 @@ use mathlib.Core.Path.{_≡_, refl, ap, sym, subst, _∙_}
 use mathlib.Core.Bool.{false}
 use mathlib.Core.Logic.{inl, inr}
 use mathlib.Core.List.{List}
-use lib.ListN.{length, take, drop, length-append}
+use lib.ListN.{length, take, length-append}
 use lib.Seq.{take-at}
 use Rattle.base.specs.Refusals.{refused, passed}
 use Rattle.base.proofs.Flags.{inside-flag}
@@ -20,7 +20,7 @@ use Rattle.bundle.proofs.Refusals.{reader-places}
 use Rattle.bundle.proofs.Accepted.{accepted-contents, length-credentials}
 use Rattle.bundle.proofs.Determined.{reads-refused}
 use Rattle.writer.specs.declared.answer.Wrote.{Wrote}
-use Rattle.writer.specs.declared.answer.Wrote.the-variants.{Length, Refused}
+use Rattle.writer.specs.declared.answer.Wrote.the-variants.{Refused}
 use Rattle.text.specs.Written.{Wrote as WroteFrom}
 use Rattle.text.proofs.Written.{wrote-text}
 use Rattle.letters.specs.Lines.{textOf, recordsOf}
@@ -28,11 +28,11 @@ use Rattle.letters.specs.Rows.{outOfRange}
 use Rattle.letters.specs.Promise.{Stored, Writes}
 use Rattle.letters.proofs.Texts.{records-size}
 use Rattle.letters.proofs.Back.{writes-text}
+use Rattle.letters.proofs.Places.{text-short}
 use Rattle.answers.specs.Line.{refusalLine}
 use Rattle.said.specs.Line.{refuses}
 use Rattle.said.proofs.Line.{one-line}
 use Rattle.desk.specs.Answer.{mostPlace, Gives}
-use Rattle.desk.proofs.Lengths.{text-short}
 use Rattle.lines_from_bundle.specs.Gathered.{gathered}
 use Rattle.lines_from_bundle.specs.Prints.{LinesFrom, Prints}
 use Rattle.lines_from_bundle.proofs.Gathered.{gathered-is}
