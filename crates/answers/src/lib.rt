@@ -1,4 +1,6 @@
 // What the search answers, and the forms in which it leaves the library: the line of the program `ask` and one packed number.
+#![tactic(auto)]
+
 pub mod line;
 pub mod pack;
 

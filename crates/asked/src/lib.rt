@@ -1,4 +1,6 @@
 // Standard input that is a question and a bundle behind it: where the bundle starts.
+#![tactic(auto)]
+
 ghost use Rattle.std.specs.Prelude.{◌≡◌, ◌≤◌, min};
 
 // Where the bundle starts: behind so many bytes, or at the end where there are fewer.

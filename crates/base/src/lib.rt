@@ -1,5 +1,7 @@
 // What serves every crate above: a byte that a slice may not have, and whether a number is not among 1 to most.
 // The specs beside it hold "the lowest such" and the one scheme of refusals.
+#![tactic(auto)]
+
 ghost use Rattle.std.specs.Prelude.{◌≡◌, ◌<◌};
 ghost use Rattle.base.specs.Byte.{byte_at};
 ghost use Rattle.base.specs.Range.{outside as outside_of};

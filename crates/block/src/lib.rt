@@ -1,4 +1,6 @@
 // A block of 512 bytes and its check: sizes, places and modulus, and where a record stands among the blocks of a bundle.
+#![tactic(auto)]
+
 ghost use Rattle.std.specs.Prelude.{◌≡◌, ◌+◌, ◌*◌, ◌/◌, ◌%◌};
 ghost use Rattle.block.specs.Block.{check_of, check_wrong, block_of, start_of};
 

@@ -1,4 +1,6 @@
 // The bundle reader: from any bytes to an answer; and the marks and records of a bundle, and a question's range, for the crates above.
+#![tactic(auto)]
+
 pub mod access;
 pub mod checks;
 pub mod edition;

@@ -4,6 +4,8 @@
 // Its buffer has room for the longest text and one byte more. So input that is longer than the buffer has a wrong line there or one behind
 // line 240, and is answered by what stands in the buffer. Where standard input cannot be read to its end it prints no bundle, but a message
 // on standard error.
+#![tactic(auto)]
+
 ghost use Rattle.std.specs.Prelude.{◌<◌, ◌≤◌, length, take, []};
 ghost use Rattle.answers.specs.Line.{Holds};
 ghost use Rattle.said.specs.Said.{Read};

@@ -1,6 +1,8 @@
 // The library for C: the search and the tables, without and with a sheet, the check, the writer, letters and the holders of a record under
 // plain names, each with one packed number as its answer.
 // include/portertrunk.h says in words what is lent and what comes back.
+#![tactic(auto)]
+
 ghost use Rattle.bundle.specs.Question.{question};
 ghost use Rattle.search.specs.Promise.{Promise, lent};
 ghost use Rattle.tables.specs.Promise.{TablesPromise, tables};

@@ -1,4 +1,6 @@
 // What the desk's two programs have in common: what is said of an answer of the writer or of letters.
+#![tactic(auto)]
+
 ghost use Rattle.std.specs.Prelude.{◌≡◌, min};
 ghost use Rattle.listed.specs.Listing.{Tells};
 ghost use Rattle.desk.specs.Answer.{most_place, listed_as};

@@ -1,5 +1,7 @@
 // What is said of every record of a bundle by a sheet, as text: a line for each record in their order, and a last line with the two counts,
 // written in one pass into lent memory.
+#![tactic(auto)]
+
 ghost use Rattle.bundle.specs.Rows.{Accepts};
 ghost use Rattle.holder_lines.specs.Promise.{HoldersPromise};
 

@@ -2,6 +2,8 @@
 //
 // Each piece is read into a local array first and then copied behind the pieces before it, so that the promise of `fill` says
 // where every byte of the buffer comes from. Which bytes came, and how many, only the system knows.
+#![tactic(auto)]
+
 ghost use Rattle.std.specs.Prelude.{◌+◌, ◌<◌, ◌≤◌, min, ◌≡◌, length};
 ghost use Rattle.input.specs.Input.{Filled, Added, Given, Says, given_by, placed_at, said_after};
 

@@ -1,5 +1,7 @@
 // Letters: credentials as lines of text, read into records of twelve bytes and written from them. Both calls are total; they answer a number
 // of bytes or a refusal, and a refused call touches nothing.
+#![tactic(auto)]
+
 ghost use Rattle.std.specs.Prelude.{◌≡◌};
 ghost use Rattle.letters.specs.Rows.{out_of_range};
 

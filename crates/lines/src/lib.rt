@@ -1,5 +1,7 @@
 // The text of a list: a line for each person in a role's two words, or for each role in one bit of two tables, written in one pass into lent
 // memory, and how much memory that takes.
+#![tactic(auto)]
+
 use words::table::Table;
 
 pub mod line;

@@ -2,6 +2,8 @@
 //
 // Its buffer has room for the longest bundle. So input that is longer than the buffer is refused for its length, and never cut to a
 // bundle. Where standard input cannot be read to its end it prints no line, but a message on standard error.
+#![tactic(auto)]
+
 ghost use Rattle.std.specs.Prelude.{◌+◌, ◌*◌, ◌≤◌, length, take, drop, []};
 ghost use Rattle.block.specs.Block.{block_of};
 ghost use Rattle.bundle.specs.Layout.{longest_bundle, blocks_for, record_bytes};

@@ -1,4 +1,6 @@
 // What the programs of lists say, and the writing of it: a list that stands in lent memory, or the line of a refusal, and a message.
+#![tactic(auto)]
+
 ghost use Rattle.std.specs.Prelude.{◌≡◌, take};
 ghost use Rattle.listed.specs.Listing.{Tells};
 

@@ -1,5 +1,7 @@
 // Lists for the keepers: all members of a role, and all roles of a person, each as one text. The tables are filled once, and the text is
 // written in one pass over them.
+#![tactic(auto)]
+
 ghost use Rattle.std.specs.Prelude.{◌≤◌, length};
 ghost use Rattle.rt0.specs.Credential.{◌·◌};
 ghost use Rattle.bundle.specs.Rows.{Accepts};

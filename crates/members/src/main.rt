@@ -2,6 +2,8 @@
 //
 // Its buffer has room for the longest question. So input that is longer than the buffer is refused for its length, and never cut to a
 // question. Where standard input cannot be read to its end it prints no list, but a message on standard error.
+#![tactic(auto)]
+
 ghost use Rattle.std.specs.Prelude.{◌≤◌, length, []};
 ghost use Rattle.answers.specs.Line.{Holds};
 ghost use Rattle.said.specs.Said.{Read};

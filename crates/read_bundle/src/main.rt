@@ -3,6 +3,8 @@
 //
 // Its buffer has room for the longest bundle. So input that is longer than the buffer is refused for its length, and never cut to a
 // bundle. Where standard input cannot be read to its end it prints no answer, but a message on standard error.
+#![tactic(auto)]
+
 ghost use Rattle.std.specs.Prelude.{◌≤◌, length};
 ghost use Rattle.bundle.specs.Rows.{Accepts};
 ghost use Rattle.said.specs.Said.{HoldsAllowed, Read, Rightly};

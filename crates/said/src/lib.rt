@@ -1,5 +1,7 @@
 // What a program says, on standard output and on standard error, and the writing of it. What is rightly said of standard input stands in
 // specs/, once for every program.
+#![tactic(auto)]
+
 ghost use Rattle.std.specs.Prelude.{◌≡◌};
 ghost use Rattle.said.specs.Said.{shown_by};
 

@@ -1,4 +1,6 @@
 // The search: whether a person is in a role, with the tables, the rounds and, for YES, a slip.
+#![tactic(auto)]
+
 ghost use Rattle.answers.specs.Answer.{outcome_of};
 ghost use Rattle.bundle.specs.Question.{question as ask};
 ghost use Rattle.tables.specs.Open.{open_names};

@@ -1,5 +1,7 @@
 // A sheet of storage types: whether one block of bytes is right over so many role names, and the code that it says of a name. Both answer at
 // every slice. Its check and its sizes and places are those of a block.
+#![tactic(auto)]
+
 ghost use Rattle.std.specs.Prelude.{◌≡◌, true, ◌↔◌, ◌<◌};
 ghost use Rattle.base.specs.Byte.{byte_at};
 ghost use Rattle.sheet.specs.Sheet.{RightSheet, code_of};

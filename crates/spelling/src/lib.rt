@@ -1,5 +1,7 @@
 // The line of a record, written into lent memory from a place on as far as there is room. Each function gives the place behind what it wrote.
 // All are total.
+#![tactic(auto)]
+
 ghost use Rattle.std.specs.Prelude.{◌≡◌, ◌++◌, min, length};
 ghost use Rattle.rt0.specs.Credential.{◌·◌};
 ghost use Rattle.base.specs.Byte.{byte_at};

@@ -1,4 +1,6 @@
 // Storage types of the records of a bundle: whether a record is structurally well typed by a sheet, and which shelves must hold it.
+#![tactic(auto)]
+
 ghost use Rattle.std.specs.Prelude.{◌≡◌};
 ghost use Rattle.records.specs.Form.{credential_of};
 ghost use Rattle.bundle.specs.Access.{record_of};

@@ -1,4 +1,6 @@
 // The two tables of a bundle: who is in which role with no completion, and under at least one; with the number of rounds.
+#![tactic(auto)]
+
 ghost use Rattle.std.specs.Prelude.{◌≤◌, length, take};
 ghost use Rattle.bundle.specs.Rows.{Accepts};
 ghost use Rattle.bundle.specs.Held.{held};

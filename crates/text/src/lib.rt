@@ -1,5 +1,7 @@
 // Text in lent memory: bytes, words and decimal numbers, each written from a place on as far as there is room. Each function gives the
 // place behind what it wrote.
+#![tactic(auto)]
+
 ghost use Rattle.std.specs.Prelude.{[], ◌∷◌};
 ghost use Rattle.text.specs.Decimal.{decimal};
 ghost use Rattle.text.specs.Written.{Wrote};

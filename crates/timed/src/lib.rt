@@ -1,4 +1,6 @@
 // The tables and the lists under plain names, for the benchmark, which is written in C. They are no part of the library for C.
+#![tactic(auto)]
+
 ghost use Rattle.std.specs.Prelude.{◌≡◌};
 ghost use Rattle.rt0.specs.Credential.{◌·◌};
 ghost use Rattle.lists.specs.Promise.{length_of};

@@ -1,5 +1,7 @@
 // The types of credential storage as flags: of a linked role and of an intersection, from those of their names, and the three conditions of
 // a structurally well typed credential. What they mean stands in specs/: the type system in the documents' words.
+#![tactic(auto)]
+
 ghost use Rattle.std.specs.Prelude.{◌≡◌};
 ghost use Rattle.types.specs.Flags.{well_typed, link_traces, both_traces, three_conditions};
 

@@ -1,5 +1,7 @@
 // The search and the tables of a bundle with a sheet of storage types. They are those without a sheet, where further roles are open; a wrong
 // sheet is refused after the bundle's own refusals.
+#![tactic(auto)]
+
 ghost use Rattle.std.specs.Prelude.{◌≡◌};
 ghost use Rattle.answers.specs.Answer.{outcome_of};
 ghost use Rattle.tables.specs.Promise.{tables};
