@@ -5,7 +5,7 @@ pub mod line;
 pub mod pack;
 
 // The answer of the search.
-#[derive(Drop)]
+#[derive(Clone, Copy)]
 pub enum Answer {
     // The person is a member; a slip of so many lines says why.
     Yes { rounds: u16, lines: u16 },

@@ -7,7 +7,7 @@ ghost use Rattle.answers.specs.Line.{capacity, newline, refusal_line, accepted_l
 use crate::Answer;
 
 // A text in the making or made: the first `length` bytes, with zeros past them.
-#[derive(Drop)]
+#[derive(Clone, Copy)]
 pub struct Text {
     pub bytes: [u8; Text::CAPACITY],
     pub length: usize,

@@ -29,7 +29,7 @@ impl Block {
 }
 
 // Where a record stands: the number of its block, and the byte of that block at which it starts.
-#[derive(Drop)]
+#[derive(Clone, Copy)]
 pub struct RecordPlace {
     pub block: usize,
     pub start: usize,

@@ -8,7 +8,7 @@ use block::{Block, RecordPlace};
 use records::form::{Record, record_of};
 
 // The mark of a shelf.
-#[derive(Drop)]
+#[derive(Clone, Copy)]
 pub enum Mark {
     Present,
     Absent,

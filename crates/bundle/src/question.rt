@@ -4,7 +4,7 @@ ghost use Rattle.bundle.specs.Question.{question_wrong};
 
 use base::outside;
 
-#[derive(Drop)]
+#[derive(Clone, Copy)]
 pub struct Question {
     pub person: usize,
     pub entity: usize,

@@ -11,7 +11,7 @@ use base::byte;
 use block::Block;
 
 // What block 0 says: the number of entities, of role names and of records.
-#[derive(Drop)]
+#[derive(Clone, Copy)]
 pub struct Sizes {
     pub entities: usize,
     pub names: usize,
@@ -19,7 +19,7 @@ pub struct Sizes {
 }
 
 // What the reader answers.
-#[derive(Drop)]
+#[derive(Clone, Copy)]
 pub enum Reading {
     // Every block and record is right; block 0 says these sizes.
     Accepted(Sizes),

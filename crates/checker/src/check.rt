@@ -17,7 +17,7 @@ use records::form::Role;
 use rt0::Slip;
 
 // What the checker answers.
-#[derive(Drop)]
+#[derive(Clone, Copy)]
 pub enum Checked {
     // Every line is right, and the last states the question's fact.
     Accepted { lines: u16 },

@@ -8,7 +8,7 @@ ghost use Rattle.checker.specs.Claim.{fact_in, pick_claim};
 use records::form::{Head, Record, Role, head_of};
 
 // That a member is in a role, or nothing.
-#[derive(Drop)]
+#[derive(Clone, Copy)]
 pub enum Claim {
     That(Role, usize),
     Nothing,

@@ -10,7 +10,7 @@ ghost use Rattle.input.specs.Input.{Filled, Added, Given, Says, given_by, placed
 use libc::STDIN_FILENO;
 
 // What reading gave.
-#[derive(Drop)]
+#[derive(Clone, Copy)]
 pub enum Input {
     // The whole input: so many bytes, at the start of the buffer.
     Whole(usize),
@@ -21,7 +21,7 @@ pub enum Input {
 }
 
 // What one read gave.
-#[derive(Drop)]
+#[derive(Clone, Copy)]
 enum Piece {
     // So many bytes, at least one.
     Bytes(usize),

@@ -2,7 +2,7 @@
 #![tactic(auto)]
 
 // What a record gives over so many entities: the record's number, the first fact of its head, and the word.
-#[derive(Drop)]
+#[derive(Clone, Copy)]
 pub struct Given {
     pub entities: usize,
     pub number: usize,

@@ -7,7 +7,7 @@ ghost use Rattle.lines.specs.Passing.{Marked};
 use text::{number, put, word};
 
 // Where the next line goes, and how many lines of each kind are written.
-#[derive(Drop)]
+#[derive(Clone, Copy)]
 pub struct Tally {
     pub next: usize,
     pub sure: u16,

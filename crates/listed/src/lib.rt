@@ -10,7 +10,7 @@ use lists::Listed;
 use said::write_text;
 
 // So many bytes of the lent text and then a line on standard output, and a message on standard error.
-#[derive(Drop)]
+#[derive(Clone, Copy)]
 pub struct Listing {
     pub length: usize,
     pub line: Text,

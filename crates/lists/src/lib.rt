@@ -19,7 +19,7 @@ use tables::{Filled, fill};
 use words::table::{Table, word};
 
 // What asking for a list answers.
-#[derive(Drop)]
+#[derive(Clone, Copy)]
 pub enum Listed {
     // The text stands in so many bytes at the front of the lent memory.
     Length(usize),

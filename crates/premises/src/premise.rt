@@ -10,7 +10,7 @@ use records::form::{Record, Role};
 use words::table::{Table, word};
 
 // The premises of a line: line numbers, or 0.
-#[derive(Drop)]
+#[derive(Clone, Copy)]
 pub struct Premises {
     pub first: u16,
     pub second: u16,

@@ -5,14 +5,14 @@ ghost use Rattle.records.specs.Form.{role_in, intersection_in, record_in, head_o
 use base::byte;
 
 // A role by its entity and its name.
-#[derive(Drop)]
+#[derive(Clone, Copy)]
 pub struct Role {
     pub entity: usize,
     pub name: usize,
 }
 
 // A record by its form: its head, and its body.
-#[derive(Drop)]
+#[derive(Clone, Copy)]
 pub enum Record {
     Entity {
         head: Role,
@@ -42,7 +42,7 @@ pub enum Record {
 }
 
 // The head of a record, if it is one.
-#[derive(Drop)]
+#[derive(Clone, Copy)]
 pub enum Head {
     Of(Role),
     Nothing,

@@ -7,7 +7,7 @@ ghost use Rattle.records.specs.Mistake.{Mistaken, mistake_number, mistake_kind, 
 use base::{byte, outside};
 
 // The kinds of mistake, in the order in which they go first.
-#[derive(Drop)]
+#[derive(Clone, Copy)]
 pub enum Mistake {
     // The form is not 1 to 4.
     UnknownForm,

@@ -27,5 +27,6 @@ module _ {A : Type 0} where
   -- a total that did not fall: no item did
   pub total_kept : (f g : A → ℕ) → ((x : A) → f x ≤ g x) → (xs : List A) → total g xs ≤ total f xs → (x : A) → x ∈ xs → f x ≡ g x
   unfolding total
+  total_kept f g h [] l x x4 = elim x4 [ ]
   total_kept f g h (y ∷ ys) l x (Memᴰ.head e) = rw e (omega (arith, h y, total_le f g h ys))
   total_kept f g h (y ∷ ys) l x (Memᴰ.tail i) = total_kept f g h ys (omega (arith, h y)) x i

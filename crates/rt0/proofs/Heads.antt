@@ -63,6 +63,7 @@ added_holds ρ ρs = added (occurs ρ ρs) (occurs_in ρ ρs)
 -- the head of each credential is a distinct head
 pub head_distinct : (cs : List Credential) (c : Credential) → c ∈ cs → head c ∈ distinct_heads cs
 unfolding distinct_heads
+head_distinct [] c x' = elim x' [ ]
 head_distinct (k ∷ cs) c (Memᴰ.head e) = rw e (added_holds (head k) (distinct_heads cs))
 head_distinct (k ∷ cs) c (Memᴰ.tail i) =
     added_keeps (occurs (head k) (distinct_heads cs)) (head k) (head c) (distinct_heads cs) (head_distinct cs c i)

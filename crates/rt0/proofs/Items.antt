@@ -22,7 +22,7 @@ module _ {A : Type 0} where
   item_occurs (x ∷ l) zero a e = Memᴰ.head (sym (some-injective x a e))
   item_occurs (x ∷ l) (suc n) a e = Memᴰ.tail (item_occurs l n a e)
 
-  pub occurs_item : {l : List A} {a : A} → a ∈ l → (n : ℕ) × (get_elem? l n ≡ some a)
+  pub occurs_item : {a : A} {l : List A} → a ∈ l → (n : ℕ) × (get_elem? l n ≡ some a)
   occurs_item (Memᴰ.head e) = (zero, ap some (sym e))
   occurs_item (Memᴰ.tail m) = let r = occurs_item m in (suc r.0, r.1)
 
@@ -61,16 +61,19 @@ module _ {A : Type 0} where
 
   -- the list without one occurrence of an item
   without : {a : A} (l : List A) → a ∈ l → List A
+  without {a = a} [] x' = elim x' [ ]
   without (x ∷ l) (Memᴰ.head e) = l
   without (x ∷ l) (Memᴰ.tail m) = x ∷ without l m
 
   length_without : {a : A} (l : List A) (i : a ∈ l) → suc (length (without l i)) ≡ length l
   unfolding without
+  length_without {a = a} [] i = elim i [ ]
   length_without (x ∷ l) (Memᴰ.head e) = refl
   length_without (x ∷ l) (Memᴰ.tail m) = ap suc (length_without l m)
 
   others_stay : {a b : A} (l : List A) (i : a ∈ l) → b ≢ a → b ∈ l → b ∈ without l i
   unfolding without
+  others_stay {a = a} {b = b} [] i ne _ = elim i [ ]
   others_stay (x ∷ l) (Memᴰ.head e) ne (Memᴰ.head e') = absurd (ne (cc))
   others_stay (x ∷ l) (Memᴰ.head e) ne (Memᴰ.tail m') = m'
   others_stay (x ∷ l) (Memᴰ.tail m) ne (Memᴰ.head e') = Memᴰ.head e'

@@ -20,7 +20,7 @@ flat_map_has {A} {B} f (x ∷ xs) b i = from (λ j. flat_map_has f xs b j) (Mem�
     from later (inl j) = (x, Memᴰ.head refl, j)
     from later (inr j) = let (a, k, m) = later j in (a, Memᴰ.tail k, m)
 
-pub flat_map_holds : {A B : Type 0} (f : A → List B) {l : List A} (a : A) (b : B) → a ∈ l → b ∈ f a → b ∈ flat_map f l
+pub flat_map_holds : {A B : Type 0} (f : A → List B) (a : A) (b : B) {l : List A} → a ∈ l → b ∈ f a → b ∈ flat_map f l
 unfolding flat_map
 flat_map_holds f a b (Memᴰ.head {xs = xs} e) j = Memᴰ.append_left (flat_map f xs) (rw e at j)
 flat_map_holds f a b (Memᴰ.tail {x = x} i) j = Memᴰ.append_right (f x) (flat_map_holds f a b i j)

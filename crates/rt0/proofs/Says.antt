@@ -88,6 +88,7 @@ module _ (book other : Book) (earlier later : List Line) (more : (n : ℕ) (f : 
 module _ (book : Book) (earlier : List Line) (P : Assignment)
     (holds : (n : ℕ) (ρ : Role) (D : ℕ) → Says book earlier n (ρ ∋ D) → P ρ D) where
   in_turn_holds : (parts : List Role) (ps : List ℕ) (D : ℕ) → InTurn book earlier D parts ps → (ρ : Role) → ρ ∈ parts → P ρ D
+  in_turn_holds [] ps D t ρ i = elim i [ ]
   in_turn_holds (σ ∷ σs) [] D t ρ i = absurd t
   in_turn_holds (σ ∷ σs) (p ∷ ps) D t ρ (Memᴰ.head e) = rw e (holds p σ D t.0)
   in_turn_holds (σ ∷ σs) (p ∷ ps) D t ρ (Memᴰ.tail i) = in_turn_holds σs ps D t.1 ρ i
@@ -101,11 +102,13 @@ module _ (book : Book) (earlier : List Line) (P : Assignment)
 
 -- a premise is the number of an earlier line, or 0
 none_within : (n : ℕ) (ps : List ℕ) → AllNone ps → (p : ℕ) → p ∈ ps → p ≤ n
+none_within n [] h p x'' = elim x'' [ ]
 none_within n (q ∷ qs) h p (Memᴰ.head e) = omega arith
 none_within n (q ∷ qs) h p (Memᴰ.tail i) = none_within n qs h.1 p i
 
 in_turn_within : (book : Book) (earlier : List Line) (D : ℕ) (parts : List Role) (ps : List ℕ) → InTurn book earlier D parts ps
     → (p : ℕ) → p ∈ ps → p ≤ length earlier
+in_turn_within book earlier D (ρ ∷ ρs) [] t p i = elim t [ ]
 in_turn_within book earlier D [] ps t p i = none_within (length earlier) ps t p i
 in_turn_within book earlier D (ρ ∷ ρs) (q ∷ qs) t p (Memᴰ.head e) = rw e (says_within book earlier q (ρ ∋ D) t.0).1
 in_turn_within book earlier D (ρ ∷ ρs) (q ∷ qs) t p (Memᴰ.tail i) = in_turn_within book earlier D ρs qs t.1 p i

@@ -77,10 +77,15 @@ lines_of_after l bytes (suc n) =
     let next : 8 * suc n ≡ 8 + 8 * n = omega arith in
     ap₂ (λ (ls : List Line) (x : Line). ls ++ (x ∷ [])) (lines_of_after l bytes n) (rw next (line_later l bytes (8 * n)))
 
+-- no lines of any bytes
+lines_of_none : (bytes : List ℕ) → lines_of bytes 0 ≡ []
+unfolding lines_of
+lines_of_none bytes = refl
+
 -- reading back what was written, whatever follows it
 pub lines_of_bytes_of : (lines : List Line) (rest : List ℕ) → lines_of (bytes_of lines ++ rest) (length lines) ≡ lines
-unfolding bytes_of lines_of
-lines_of_bytes_of [] rest = refl
+unfolding bytes_of
+lines_of_bytes_of [] rest = lines_of_none rest
 lines_of_bytes_of (l ∷ lines) rest =
     rw append_assoc (lines_of_after l (bytes_of lines ++ rest) (length lines) ∙ ap (λ (ls : List Line). l ∷ ls) (lines_of_bytes_of lines rest))
 
@@ -92,6 +97,7 @@ AllSmall [] = Unit {0}
 AllSmall (b ∷ bs) = (b < 256) × AllSmall bs
 
 small_byte : (bytes : List ℕ) → AllSmall bytes → (b : ℕ) → b ∈ bytes → b < 256
+small_byte [] h b x'' = elim x'' [ ]
 small_byte (x ∷ bytes) h b (Memᴰ.head e) = omega arith
 small_byte (x ∷ bytes) h b (Memᴰ.tail i) = small_byte bytes h.1 b i
 

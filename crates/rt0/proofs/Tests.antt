@@ -23,6 +23,7 @@ every p (x ∷ xs) = p x && every p xs
 
 pub every_true : {A : Type 0} (p : A → Bool) (xs : List A) → every p xs ≡ true → (x : A) → x ∈ xs → p x ≡ true
 unfolding every
+every_true {A = A} p [] e x x4 = elim x4 [ ]
 every_true p (y ∷ ys) e x (Memᴰ.head q) = rw q (both_true (p y) (every p ys) e).0
 every_true p (y ∷ ys) e x (Memᴰ.tail i) = every_true p ys (both_true (p y) (every p ys) e).1 x i
 

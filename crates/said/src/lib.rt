@@ -8,7 +8,7 @@ ghost use Rattle.said.specs.Said.{shown_by};
 use answers::line::Text;
 
 // What a program says: on standard output and on standard error.
-#[derive(Drop)]
+#[derive(Clone, Copy)]
 pub struct Said {
     pub out: Text,
     pub problem: Text,

@@ -26,7 +26,7 @@ use words::step::{Step, write_steps};
 use words::table::{Table, copy};
 
 // A record's turn: its number, the fact in question, and the lines so far.
-#[derive(Drop)]
+#[derive(Clone, Copy)]
 pub struct Turn {
     pub number: usize,
     pub goal: usize,

@@ -19,7 +19,7 @@ pub mod shelves;
 pub mod typing;
 
 // What is said of a record by a sheet.
-#[derive(Drop)]
+#[derive(Clone, Copy)]
 pub enum Storage {
     // It is structurally well typed, and these shelves must hold it: A is bit A − 1.
     Held { shelves: u32 },

@@ -10,7 +10,7 @@ use sheet::code_of;
 use types::{Traces, both, link, three_conditions};
 
 // The two sides of a name's type.
-#[derive(Drop)]
+#[derive(Clone, Copy)]
 pub struct Sides {
     // The issuer side is issuer-traces-all.
     pub all: bool,

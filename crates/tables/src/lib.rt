@@ -20,7 +20,7 @@ pub mod settle;
 pub mod start;
 
 // What filling the tables of a bundle answers.
-#[derive(Drop)]
+#[derive(Clone, Copy)]
 pub enum Filled {
     // E, R and N, and the number of rounds over the held credentials.
     Rounds { sizes: Sizes, rounds: u16 },

@@ -12,7 +12,7 @@ use bundle::read::Sizes;
 use words::table::Table;
 
 // Which roles are open: those of the entities in one word, and those of the names in the other.
-#[derive(Drop)]
+#[derive(Clone, Copy)]
 pub struct OpenRoles {
     pub entities: u32,
     pub names: u32,

@@ -52,10 +52,12 @@ one_not_two : ◌≡◌ {A = ℕ} 1 2 → ⊥
 one_not_two e = omega arith
 
 one_of_two : (P : Role → Type 0) (ρ σ : Role) → P ρ → P σ → (τ : Role) → τ ∈ (ρ ∷ σ ∷ []) → P τ
+one_of_two P ρ σ p q τ (Memᴰ.tail (Memᴰ.tail x8)) = elim x8 [ ]
 one_of_two P ρ σ p q τ (Memᴰ.head e) = subst P (sym e) p
 one_of_two P ρ σ p q τ (Memᴰ.tail (Memᴰ.head e)) = subst P (sym e) q
 
 pub all_typed : AllTyped types credentials
+all_typed c (Memᴰ.tail (Memᴰ.tail (Memᴰ.tail x12))) = elim x12 [ ]
 all_typed c (Memᴰ.head e) = subst (StructurallyWellTyped types) (sym e) (record {
   head_typed = inl (inl refl);
   body_typed = inl body;
@@ -89,6 +91,7 @@ abbrev OfName2 : Assignment
 OfName2 ρ D = name_of ρ ≡ 2
 
 closed : Closed (both ∷ first ∷ []) OfName2
+closed c (Memᴰ.tail (Memᴰ.tail x8)) = elim x8 [ ]
 closed c (Memᴰ.head e) = subst (λ (k : Credential). (D : ℕ) → Gives OfName2 k D → OfName2 (head k) D) (sym e)
     (λ D g. absurd (three_not_two (g (1 · 3) (Memᴰ.tail (Memᴰ.head refl)))))
 closed c (Memᴰ.tail (Memᴰ.head e)) = subst (λ (k : Credential). (D : ℕ) → Gives OfName2 k D → OfName2 (head k) D) (sym e) (λ D g. refl)

@@ -45,6 +45,7 @@ module _ (T : Types) where
   -- and each of them is
   left_each : (cs : List Credential) (c : Credential) → c ∈ cs → IssuerTracesAll (head_type T c) → c ∈ traced T cs
   unfolding traced
+  left_each [] c x'' t = elim x'' [ ]
   left_each (d ∷ cs) c (Memᴰ.head e) t = rw (← e) (left_here (head_type T c).on_issuer c (traced T cs) t)
   left_each (d ∷ cs) c (Memᴰ.tail i) t = left_behind (traces_all (head_type T d).on_issuer) c d (traced T cs) (left_each cs c i t)
 

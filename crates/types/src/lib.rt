@@ -6,7 +6,7 @@ ghost use Rattle.std.specs.Prelude.{◌≡◌};
 ghost use Rattle.types.specs.Flags.{well_typed, link_traces, both_traces, three_conditions};
 
 // The type of a name or of a body.
-#[derive(Drop)]
+#[derive(Clone, Copy)]
 pub struct Traces {
     // It is issuer-traces-all.
     pub issuer: bool,

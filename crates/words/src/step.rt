@@ -20,7 +20,7 @@ impl Step {
 }
 
 // What one use of a step gives, and the number of the word that it goes to.
-#[derive(Drop)]
+#[derive(Clone, Copy)]
 pub struct Gain {
     pub place: usize,
     pub word: u32,

@@ -1,6 +1,6 @@
 // What the writer answers.
 
-#[derive(Drop)]
+#[derive(Clone, Copy)]
 pub enum Wrote {
     // The bundle that now stands at the front of the buffer has so many bytes.
     Length(usize),

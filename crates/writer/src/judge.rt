@@ -113,7 +113,7 @@ fn lowest_wrong(entities: usize, names: usize, records: &[u8]) -> usize
 }
 
 // What is wrong with a list of records: the paper's number and place, 0 and 0 for nothing.
-#[derive(Drop)]
+#[derive(Clone, Copy)]
 pub struct Flaw {
     pub number: u8,
     pub place: usize,

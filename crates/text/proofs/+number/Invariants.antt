@@ -1,0 +1,5 @@
+-- `text::number` calls itself with the tenth of its number. The measure is the number.
+use Rattle.text.proofs.+number.Given as goal
+
+abbrev pub decreases-number : goal.decreases-number
+decreases-number l = l.n

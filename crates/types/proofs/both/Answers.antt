@@ -1,0 +1,5 @@
+-- `types::both` meets its contract.
+use Rattle.types.proofs.both.Goals as goal
+
+pub returns : goal.returns
+returns c = rw (c.well_typed.ensures, c.well_typed-2.ensures)
