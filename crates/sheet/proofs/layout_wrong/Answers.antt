@@ -1,0 +1,21 @@
+-- `sheet::layout_wrong` meets its contract.
+use Prim.Native.Nat.{◌-◌}
+use mathlib.Core.Path.{sym, ◌∙◌}
+use borrow.Author.Rules.{rules}
+use Rattle.sheet.specs.Wrong.{layout_wrong}
+use Rattle.base.proofs.Lowest.{missed_none, missed_more, any_hit, any_none}
+use Rattle.sheet.proofs.layout_wrong.Goals as goal
+
+pub loop-i-init : goal.loop-i-init
+loop-i-init c = (search rules, missed_none _)
+
+pub returns-then-byte_wrong : goal.returns-then-byte_wrong
+unfolding layout_wrong
+returns-then-byte_wrong c = any_hit _ _ _ (search rules) c.loop-i.invariant.1 (sym c.byte_wrong.ensures ∙ c.if-byte_wrong.true)
+
+pub loop-i-preserved : goal.loop-i-preserved
+loop-i-preserved c = (search rules, missed_more _ _ c.loop-i.invariant.1 (sym c.byte_wrong.ensures ∙ c.if-byte_wrong.false))
+
+pub returns : goal.returns
+unfolding layout_wrong
+returns c = any_none _ _ _ c.loop-i.invariant.0 c.loop-i-test.false c.loop-i.invariant.1

@@ -1,0 +1,11 @@
+-- `sheet::layout_wrong` meets its contract.
+use Prim.Native.Nat.{◌-◌, ◌≤◌}
+use Rattle.sheet.specs.Wrong.{wrong_at}
+use Rattle.base.proofs.Lowest.{Missed}
+use Rattle.sheet.proofs.layout_wrong.Given as goal
+
+abbrev pub invariant-loop-i : goal.invariant-loop-i
+invariant-loop-i l = (l.i ≤ 510) × Missed (wrong_at l.names l.sheet) l.i
+
+abbrev pub decreases-loop-i : goal.decreases-loop-i
+decreases-loop-i l = 510 - l.i
