@@ -1,0 +1,28 @@
+-- `premises::premise::premises_in` meets its contract.
+use Rattle.premises.specs.Premise.{premises_in}
+use Rattle.premises.proofs.premise.premises_in.Goals as goal
+
+pub returns-in-Entity : goal.returns-in-Entity
+unfolding premises_in
+returns-in-Entity c = rw (c.in-Entity.is, c.of.ensures)
+
+pub returns-in-Role : goal.returns-in-Role
+unfolding premises_in
+returns-in-Role c = rw (c.in-Role.is, c.of-in-Role.ensures, c.line_of.ensures)
+
+pub returns-in-Link : goal.returns-in-Link
+unfolding premises_in
+returns-in-Link c = rw c.in-Link.is c.link_premises.ensures
+
+pub returns-in-TwoParts : goal.returns-in-TwoParts
+unfolding premises_in
+returns-in-TwoParts c = rw (c.in-TwoParts.is, c.of-in-TwoParts.ensures, c.line_of-in-TwoParts.ensures, c.line_of-in-TwoParts-2.ensures)
+
+pub returns-in-ThreeParts : goal.returns-in-ThreeParts
+unfolding premises_in
+returns-in-ThreeParts c =
+    rw (c.in-ThreeParts.is, c.of-in-ThreeParts.ensures, c.line_of-in-ThreeParts.ensures, c.line_of-in-ThreeParts-2.ensures, c.line_of-third.ensures)
+
+pub returns-in-Nothing : goal.returns-in-Nothing
+unfolding premises_in
+returns-in-Nothing c = rw (c.in-Nothing.is, c.of-in-Nothing.ensures)
