@@ -35,5 +35,5 @@ module _ {h : Holding} {q : Question} {before after : Lent} {o : Outcome} (answe
       ↔ Answers h.entities h.names h.is_open h.held (role_asked q) q.person word
   word_exactly word = (
     λ e. rw (word_is word e) at answer.answers,
-    λ a. verdict_word ∙ ap verdict_number (answer_unique _ _ _ _ _ _ answer.word word answer.answers a),
+    λ a. verdict_word ∙ ap verdict_number (answer_unique _ _ h.is_open _ _ _ answer.word word answer.answers a),
   )

@@ -1,0 +1,6 @@
+-- `capi::portertrunk_tables_with_sheet` meets its contract.
+use Rattle.capi.proofs.Unpacking.{packed_tables}
+use Rattle.capi.proofs.portertrunk_tables_with_sheet.Goals as goal
+
+pub returns : goal.returns
+returns c = packed_tables _ _ _ c.pack_filled.ensures c.fill_with_sheet.ensures
