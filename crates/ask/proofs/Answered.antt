@@ -17,7 +17,7 @@ use Rattle.search.proofs.Judging.{enough_right, enough_memory}
 use Rattle.asked.specs.Input.{question_bytes, bundle_of, question_of}
 use Rattle.asked.specs.Prints.{ask_rows, Prints}
 use Rattle.asked.proofs.Input.{bundle_part}
-use Rattle.asked.proofs.Answered.{prints_refused, prints-answered}
+use Rattle.asked.proofs.Answered.{prints_refused, prints_answered}
 
 -- the part behind the question is the bundle, and the first three bytes are the question
 pub asked : (input : List ℕ) (start d a r : ℕ) (before after : Lent) (o : Outcome) → start ≡ min question_bytes (length input)
@@ -38,5 +38,5 @@ module _ (input : List ℕ) (m : Lent) (enough : Enough m) where
   prints_answer after answer (refused d kept) =
       prints_refused (holding_in (bundle_of input)) (question_of input) (ask_rows input) (lent_row m ∷ []) no_memory_row answer _ _ d kept.outcome
   prints_answer after answer (passed _ _ c a) =
-      prints-answered (holding_in (bundle_of input)) (question_of input) (ask_rows input) (lent_row m ∷ []) no_memory_row answer a.word _ _ c a.answers
+      prints_answered (holding_in (bundle_of input)) (question_of input) (ask_rows input) (lent_row m ∷ []) no_memory_row answer a.word _ _ c a.answers
       a.rounds a.outcome

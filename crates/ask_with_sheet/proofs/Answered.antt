@@ -15,7 +15,7 @@ use Rattle.search.specs.Enough.{Enough}
 use Rattle.search.proofs.Judging.{enough_right, enough_memory}
 use Rattle.asked.specs.Input.{question_bytes, question_of}
 use Rattle.asked.proofs.Input.{bundle_part, part_between}
-use Rattle.asked.proofs.Answered.{prints_refused, prints-answered}
+use Rattle.asked.proofs.Answered.{prints_refused, prints_answered}
 use Rattle.with_sheet.specs.Promise.{SheetSearch}
 use Rattle.ask_with_sheet.specs.Input.{sheet_bytes, front_bytes, sheet_of, bundle_of}
 use Rattle.ask_with_sheet.specs.Prints.{ask_rows, holding_of, Prints}
@@ -41,5 +41,5 @@ module _ (input : List ℕ) (m : Lent) (enough : Enough m) where
   prints_answer after answer (refused d kept) =
       prints_refused (holding_of input) (question_of input) (ask_rows input) (lent_row m ∷ []) no_memory_row answer _ _ d kept.outcome
   prints_answer after answer (passed _ _ c a) =
-      prints-answered (holding_of input) (question_of input) (ask_rows input) (lent_row m ∷ []) no_memory_row answer a.word _ _ c a.answers
+      prints_answered (holding_of input) (question_of input) (ask_rows input) (lent_row m ∷ []) no_memory_row answer a.word _ _ c a.answers
       a.rounds a.outcome

@@ -16,7 +16,7 @@ use Rattle.answers.specs.declared.Answer.TheVariants.{Yes, No, Unsure, Refused}
 use Rattle.answers.specs.Answer.{Outcome, refusal, answered, outcome_of}
 use Rattle.answers.specs.Line.{refusal_line, answer_line, line_of}
 use Rattle.said.specs.Line.{LineBy}
-use Rattle.said.proofs.Line.{line_refused, line-given}
+use Rattle.said.proofs.Line.{line_refused, line_given}
 use Rattle.asked.specs.Prints.{AnswersIn, AnsweredLine}
 
 -- the line of an outcome's numbers, by its verdict: 0 is a refusal
@@ -58,10 +58,10 @@ module _ (h : Holding) (q : Question) where
         let line : line_of answer ≡ refusal_line number place = line_of_lem answer ∙ ap outcome_line outcome in
         subst (LineBy rows (AnsweredLine h q)) (sym line) (line_refused rows (AnsweredLine h q) rest none number place d)
 
-    pub prints-answered : (word : Verdict) (rounds lines : ℕ) → Clear (rows ++ rest) → AnswersIn h q word → Rounds h.held rounds
+    pub prints_answered : (word : Verdict) (rounds lines : ℕ) → Clear (rows ++ rest) → AnswersIn h q word → Rounds h.held rounds
         → outcome_of answer ≡ answered word rounds lines → LineBy rows (AnsweredLine h q) (line_of answer)
-    prints-answered word rounds lines c answers counted outcome =
-        line-given rows (AnsweredLine h q) rest none c
+    prints_answered word rounds lines c answers counted outcome =
+        line_given rows (AnsweredLine h q) rest none c
         (record {
           word = word;
           rounds = rounds;

@@ -126,7 +126,7 @@ module _ (test : ℕ → ℕ → Bool) (m : ℕ) where
       record {
         most = h.most;
         missed = λ k b. missed_more (test k) i (h.missed k b) (is.missed k (omega arith));
-        hit = λ b. let (j, below, true-there) = h.hit b in (j, omega arith, true-there);
+        hit = λ b. let (j, below, true_there) = h.hit b in (j, omega arith, true_there);
       }
 
   pub least_done : (n i least : ℕ) → i ≤ n → n ≤ i → Least test m i least → least ≡ lowest (λ k. any_below (test k) n) m
@@ -136,6 +136,6 @@ module _ (test : ℕ → ℕ → Bool) (m : ℕ) where
       (record {
         most = h.most;
         missed = λ k l. sym (any_none (test k) n i a b (h.missed k l));
-        hit = λ l. let (j, below, true-there) = h.hit l in any_somewhere (test least) n j (omega arith) true-there;
+        hit = λ l. let (j, below, true_there) = h.hit l in any_somewhere (test least) n j (omega arith) true_there;
       })
       (lowest_is (λ k. any_below (test k) n) m)

@@ -1,6 +1,6 @@
 -- The laws of a table of refusals, once for any list of rows: what is due is unique, something is due or no row applies, one table behind
 -- another, and the first of tests that decide the rows is what is due. What a promise by such a table says of an answer follows at the end.
-use Prim.Native.Nat.{ℕ, suc, ◌+◌, ◌<◌, ◌≤◌}
+use Prim.Native.Nat.{ℕ, suc, ◌<◌, ◌≤◌}
 use mathlib.Core.Path.{◌≡◌, refl, sym, ap, ◌∙◌, subst₂}
 use mathlib.Core.Bool.{Bool, true, false, cond, true≢false}
 use native.Mathlib.Decide.{dec_lt}

@@ -64,11 +64,11 @@ module _ (holds : ℕ → Bool) (n : ℕ) where
       (λ past. absurd (omega (arith, missed_zero (λ k l. (lowest_is holds n).missed k (omega arith)))))
 
   there_word : (p : ℕ) → EachBelow holds n p → 0 < bits_below holds n
-  there_word p a = let (k, l, e) = a.somewhere in not-zero (bits_below holds n) k ((bits_told holds n k).1 (l, e))
+  there_word p a = let (k, l, e) = a.somewhere in not_zero (bits_below holds n) k ((bits_told holds n k).1 (l, e))
     where
-      not-zero : (w k : ℕ) → bit w k ≡ 1 → 0 < w
-      not-zero zero k one = absurd (omega (arith, bit_zero k))
-      not-zero (suc w) k one = omega arith
+      not_zero : (w k : ℕ) → bit w k ≡ 1 → 0 < w
+      not_zero zero k one = absurd (omega (arith, bit_zero k))
+      not_zero (suc w) k one = omega arith
 
   pub each_finds : Finds (each_place holds n) (EachBelow holds n)
   each_finds = finds_below 0 (bits_below holds n) (bits_below holds n) each_place_lem word_there there_word

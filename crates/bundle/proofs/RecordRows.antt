@@ -27,19 +27,19 @@ module _ (bytes : List ℕ) where
     abbrev kind : ℕ
     kind = mistake_kind (entities_of bytes) (names_of bytes) (record_bytes bytes i)
 
-    its-mistake : Due (mistake_rows (entities_of bytes) (names_of bytes) (record_bytes bytes i)) (kind_number kind) 0
-    its-mistake = wrong_due (entities_of bytes) (names_of bytes) (record_bytes bytes i) l.holds
+    its_mistake : Due (mistake_rows (entities_of bytes) (names_of bytes) (record_bytes bytes i)) (kind_number kind) 0
+    its_mistake = wrong_due (entities_of bytes) (names_of bytes) (record_bytes bytes i) l.holds
 
     -- its row applies
     here : (number : ℕ) → kind_number kind ≡ number → FromOne (MistakeAt bytes number) (suc i)
-    here number e = (i, refl, record { record_there = l; mistake = rw e at its-mistake })
+    here number e = (i, refl, record { record_there = l; mistake = rw e at its_mistake })
 
     -- and no other
     other : (number : ℕ) → (kind_number kind ≡ number → ⊥) → Applies (row number (FromOne (MistakeAt bytes number))) → ⊥
     other number n (p, (k, e, a)) =
         let same : k ≡ i = lowest_place (bad_record bytes) (records_of bytes) k i a.record_there l in
         n (due_unique (mistake_rows (entities_of bytes) (names_of bytes) (record_bytes bytes i)) (one_place (entities_of bytes) (names_of bytes) (record_bytes bytes i)) (kind_number kind) 0 number 0
-        its-mistake (rw same at a.mistake)).0
+        its_mistake (rw same at a.mistake)).0
 
     by_kind : (k : ℕ) → kind ≡ k → k < 5 → Due (record_rows bytes) (61 + k) (suc i)
     by_kind zero e b = inl (refl, here 61 (rw e))
@@ -64,9 +64,9 @@ module _ (bytes : List ℕ) where
         )
     by_kind (suc (suc (suc (suc (suc k))))) e b = absurd (omega arith)
 
-    pub record-due : Due (record_rows bytes) (mistake_in bytes i) (suc i)
+    pub record_due : Due (record_rows bytes) (mistake_in bytes i) (suc i)
     unfolding mistake_kind
-    record-due =
+    record_due =
         let few : kind < 5 = ltb-true kind 5 l.holds in
         rw (lt-ltb kind 5 few) (by_kind kind refl few)
 
@@ -82,7 +82,7 @@ module _ (bytes : List ℕ) where
     where
       by : Dec (lowest (bad_record bytes) (records_of bytes) < records_of bytes) → Missed (bad_record bytes) (records_of bytes)
       by (yes l) = absurd (due_clear (record_rows bytes) (mistake_in bytes (lowest (bad_record bytes) (records_of bytes))) (suc (lowest (bad_record bytes) (records_of bytes))) c
-          (record-due (lowest (bad_record bytes) (records_of bytes)) (lowest_there (bad_record bytes) (records_of bytes) l)))
+          (record_due (lowest (bad_record bytes) (records_of bytes)) (lowest_there (bad_record bytes) (records_of bytes) l)))
       by (no n) = λ j b. (lowest_is (bad_record bytes) (records_of bytes)).missed j (omega arith)
 
   -- the test of the records tells these rows
@@ -95,7 +95,7 @@ module _ (bytes : List ℕ) where
       by i e (yes l) =
           let there : LowestBelow (bad_record bytes) (records_of bytes) i = rw e (lowest_there (bad_record bytes) (records_of bytes) (rw (← e) l)) in
           let d : Due (record_rows bytes) (mistake_in bytes i) (i + 1) =
-          subst (Due (record_rows bytes) (mistake_in bytes i)) (sym (add-one i)) (record-due i there) in
+          subst (Due (record_rows bytes) (mistake_in bytes i)) (sym (add-one i)) (record_due i there) in
           rw (lt-ltb i (records_of bytes) l) (due d)
       by i e (no m) =
           rw (le-ltb i (records_of bytes) (omega arith))

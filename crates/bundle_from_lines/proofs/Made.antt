@@ -25,10 +25,10 @@ use Rattle.letters.specs.Promise.{Letter, Stored, Reads}
 use Rattle.letters.proofs.Texts.{text_count, records_size}
 use Rattle.letters.proofs.Kept.{no_both, read_numbers}
 use Rattle.letters.proofs.Clear.{clear_read}
-use Rattle.letters.proofs.Listed.{count-back, records_right}
+use Rattle.letters.proofs.Listed.{count_back, records_right}
 use Rattle.desk.specs.Answer.{Gives}
 use Rattle.bundle_from_lines.specs.Prints.{text_rows, head_rows, BundleOf}
-use Rattle.bundle_from_lines.proofs.Records.{content-is}
+use Rattle.bundle_from_lines.proofs.Records.{content_is}
 
 -- what a list without a record tells of E, R and the marks
 module _ (E R : ℕ) (marks before after : List ℕ) (room : 512 ≤ length before) where
@@ -87,7 +87,7 @@ module _ (E R : ℕ) (marks text : List ℕ) (right : HeadWrong E R marks → �
   c = content_from E R marks (records_of cs)
 
   many : count c ≡ length cs
-  many = count_given E R marks (records_of cs) ∙ count-back E R cs letter.valid
+  many = count_given E R marks (records_of cs) ∙ count_back E R cs letter.valid
 
   right_list : Clear (write_rows E R marks (records_of cs) (length bundle))
   right_list = (
@@ -96,7 +96,7 @@ module _ (E R : ℕ) (marks text : List ℕ) (right : HeadWrong E R marks → �
       λ (_, (_, wrong)). right wrong,
       clear_both (list_rows E R (records_of cs)) (room_rows (whole_records (records_of cs)) (length bundle))
           (list_clear E R (records_of cs) (records_right E R cs letter.valid))
-          (λ (_, (_, above)). omega (arith, count-back E R cs letter.valid), (λ (_, (_, short)). omega (arith, count-back E R cs letter.valid), tt)),
+          (λ (_, (_, above)). omega (arith, count_back E R cs letter.valid), (λ (_, (_, short)). omega (arith, count_back E R cs letter.valid), tt)),
     ),
   )
 
@@ -112,7 +112,7 @@ module _ (E R : ℕ) (marks text : List ℕ) (right : HeadWrong E R marks → �
         given =
             record {
               letter = letter;
-              bytes = rw (stored, size) (front_written c bundle ∙ ap encode (content-is E R cs letter.valid marks));
+              bytes = rw (stored, size) (front_written c bundle ∙ ap encode (content_is E R cs letter.valid marks));
             };
       }
 

@@ -37,17 +37,17 @@ some_line : (text : List ℕ) → 0 < length text → 0 < line_count text
 some_line [] l = absurd (omega arith)
 some_line (b ∷ text) l = rw (first_line b text) (omega arith)
 
-module _ (E R : ℕ) (few-entities : E < 100) (few_names : R < 100) where
+module _ (E R : ℕ) (few_entities : E < 100) (few_names : R < 100) where
   -- what is left behind fewer than 240 right lines of so long a text is longer than a line
   left_long : (text : List ℕ) (cs : List Credential) (rest : List ℕ) (k : ℕ) → longest_text < length text → k < 240 → AllValid E R cs → length cs ≡ k
       → text ≡ text_of cs ++ rest → 39 < length rest
   left_long text cs rest k long below v count e =
-      omega (arith, text_short E R few-entities few_names cs v, ap length e, length-append (text_of cs) rest)
+      omega (arith, text_short E R few_entities few_names cs v, ap length e, length-append (text_of cs) rest)
 
   -- a line that begins there is there to its end
   line_there : (front more : List ℕ) → 39 < length front → Begins E R (front ++ more) → Begins E R front
   line_there front more long b =
-      let short = line_short E R few-entities few_names b.credential b.valid in
+      let short = line_short E R few_entities few_names b.credential b.valid in
       let (m, e, _) = front_part front more (line_of b.credential) b.rest b.whole (omega arith) in
       record { credential = b.credential; valid = b.valid; rest = m; whole = e }
 
@@ -79,8 +79,8 @@ module _ (E R : ℕ) (few-entities : E < 100) (few_names : R < 100) where
       first.wrong (subst (RightLine E R) (sym (line_behind text s.credentials s.rest k s.whole s.count)) (begins_right s.rest b))
 
   module _ (text more : List ℕ) (long : longest_text < length text) (k : ℕ) where
-    pub wrong-onward : FirstWrong E R text k → FirstWrong E R (text ++ more) k
-    wrong-onward first =
+    pub wrong_onward : FirstWrong E R text k → FirstWrong E R (text ++ more) k
+    wrong_onward first =
         let s = right_split E R k text first.before in
         let cs = s.credentials in
         let left = left_long text cs s.rest k long first.among s.valid s.count s.whole in
@@ -89,11 +89,11 @@ module _ (E R : ℕ) (few-entities : E < 100) (few_names : R < 100) where
         first_behind (text ++ more) k cs (s.rest ++ more) first.among s.valid s.count whole (rw length-append (omega arith))
         (λ b. behind_wrong text k first s (line_there s.rest more left b))
 
-    pub wrong-before : FirstWrong E R (text ++ more) k → FirstWrong E R text k
-    wrong-before first =
+    pub wrong_before : FirstWrong E R (text ++ more) k → FirstWrong E R text k
+    wrong_before first =
         let s = right_split E R k (text ++ more) first.before in
         let cs = s.credentials in
-        let short = text_short E R few-entities few_names cs s.valid in
+        let short = text_short E R few_entities few_names cs s.valid in
         let (front, whole, rest) = front_part text more (text_of cs) s.rest s.whole (omega (arith, first.among, s.count)) in
         let left = left_long text cs front k long first.among s.valid s.count whole in
         first_behind text k cs front first.among s.valid s.count whole (omega arith)

@@ -35,7 +35,7 @@ use Rattle.desk.proofs.Given.{lists_others}
 use Rattle.bundle_from_lines.specs.Input.{head_bytes, longest_text, longest_input, entities_given, names_given, marks_given, text_given}
 use Rattle.bundle_from_lines.specs.Prints.{head_rows, content_with, BundleOf, bundle_rows, BundleFrom, Prints, unreadable}
 use Rattle.bundle_from_lines.proofs.Made.{no_range, few_lines}
-use Rattle.bundle_from_lines.proofs.Onward.{lines_grow, wrong-onward, wrong-before}
+use Rattle.bundle_from_lines.proofs.Onward.{lines_grow, wrong_onward, wrong_before}
 
 -- E and R of a right head
 head_range : (E R : ℕ) (marks : List ℕ) → (HeadWrong E R marks → ⊥) → (E < 100) × (R < 100)
@@ -56,11 +56,11 @@ module _ (E R : ℕ) (marks : List ℕ) where
   onward text more long shown (refuses number place (inl head) e) = refuses number place (inl head) e
   onward text more long shown (refuses number place (inr (head, inl (n, (k, at, first)))) e) =
       let (a, b) = head_range E R marks (λ wrong. head (0, (refl, wrong))) in
-      refuses number place (inr (head, inl (n, (k, at, wrong-onward E R a b text more long k first)))) e
+      refuses number place (inr (head, inl (n, (k, at, wrong_onward E R a b text more long k first)))) e
   onward text more long shown (refuses number place (inr (head, inr (lines, inl (n, (at, many))))) e) =
       let (a, b) = head_range E R marks (λ wrong. head (0, (refl, wrong))) in
       refuses number place
-      (inr (head, inr (λ (p, (k, at, first)). lines (p, (k, at, wrong-before E R a b text more long k first)), inl (n, (at, omega (arith, lines_grow text more)))))) e
+      (inr (head, inr (λ (p, (k, at, first)). lines (p, (k, at, wrong_before E R a b text more long k first)), inl (n, (at, omega (arith, lines_grow text more)))))) e
   onward text more long shown (refuses number place (inr (head, inr (lines, inr (_, none)))) e) = absurd none
   onward text more long shown (gives (head, (lines, (many, _))) made) =
       let right : HeadWrong E R marks → ⊥ = λ wrong. head (0, (refl, wrong)) in

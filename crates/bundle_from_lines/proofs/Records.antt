@@ -12,7 +12,7 @@ use Rattle.content.specs.Content.{tabulate, listed, whole_records, content_from}
 use Rattle.content.proofs.Tabulated.{is_tabulate}
 use Rattle.candidates.proofs.Records.{record_size}
 use Rattle.letters.specs.Lines.{records_of}
-use Rattle.letters.proofs.Listed.{count-back}
+use Rattle.letters.proofs.Listed.{count_back}
 use Rattle.bundle_from_lines.specs.Prints.{content_with}
 
 module _ (E R : ℕ) where
@@ -30,10 +30,10 @@ module _ (E R : ℕ) where
       ap (take 12) rest ∙ record_item cs (λ d m. v d (Memᴰ.tail m)) i (omega arith)
 
   module _ (cs : List Credential) (v : AllValid E R cs) where
-    pub content-is : (marks : List ℕ) → content_from E R marks (records_of cs) ≡ content_with E R marks cs
-    content-is marks = ap (λ (rs : List (List ℕ)). record { entities = E; names = R; marks = marks; records = rs }) same
+    pub content_is : (marks : List ℕ) → content_from E R marks (records_of cs) ≡ content_with E R marks cs
+    content_is marks = ap (λ (rs : List (List ℕ)). record { entities = E; names = R; marks = marks; records = rs }) same
       where
         same : tabulate (listed (records_of cs)) (whole_records (records_of cs)) ≡ map bytes_of cs
         same =
-            ap (tabulate (listed (records_of cs))) (count-back E R cs v)
+            ap (tabulate (listed (records_of cs))) (count_back E R cs v)
             ∙ sym (is_tabulate (listed (records_of cs)) [] (map bytes_of cs) (length cs) (length-map cs bytes_of) (λ i l. sym (record_item cs v i l)))

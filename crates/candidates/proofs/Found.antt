@@ -30,15 +30,15 @@ module _ (line : List ℕ) (A r at : ℕ) (B dot : ℕ) (x : B ≡ number_at lin
     unfolding body_from
     body_role e = rw (← p, ← q, ne_eqb (byte_at line dot) 10 no_end, eq-eqb (byte_at line end) 10 e, x, y)
 
-    module _ (no-end-either : byte_at line end ≡ 10 → ⊥) (found : Bool) (f : found ≡ begins ampersand (drop end line)) where
+    module _ (no_end_either : byte_at line end ≡ 10 → ⊥) (found : Bool) (f : found ≡ begins ampersand (drop end line)) where
       pub body_parts : found ≡ true → parts_from line A r B s end ≡ body_from line A r at
       unfolding body_from
-      body_parts e = rw (← p, ← q, ne_eqb (byte_at line dot) 10 no_end, ne_eqb (byte_at line end) 10 no-end-either, ← f, e, x, y)
+      body_parts e = rw (← p, ← q, ne_eqb (byte_at line dot) 10 no_end, ne_eqb (byte_at line end) 10 no_end_either, ← f, e, x, y)
 
       pub body_link : found ≡ false → (t : ℕ) → t ≡ number_at line (end + 2)
           → 3 ∷ A ∷ r ∷ s ∷ t ∷ 0 ∷ 0 ∷ 0 ∷ 0 ∷ 0 ∷ 0 ∷ 0 ∷ [] ≡ body_from line A r at
       unfolding body_from
-      body_link e t z = rw (← p, ← q, ne_eqb (byte_at line dot) 10 no_end, ne_eqb (byte_at line end) 10 no-end-either, ← f, e, y, z)
+      body_link e t z = rw (← p, ← q, ne_eqb (byte_at line dot) 10 no_end, ne_eqb (byte_at line end) 10 no_end_either, ← f, e, y, z)
 
 module _ (line : List ℕ) (name end : ℕ) (p : name ≡ behind line 1) (q : end ≡ behind line (name + 2)) (found : Bool) (f : found ≡ begins arrow (drop end line)) where
   pub head_found : found ≡ true → (A r : ℕ) → A ≡ number_at line 1 → r ≡ number_at line (name + 2) → body_from line A r (end + 5) ≡ candidate_of line

@@ -59,12 +59,12 @@ pub record OneRecord (E R : ℕ) (line : List ℕ) : Type 0 where
   pub line_is : line ≡ line_of (credential_in bytes)
   pub only : (other : List ℕ) → RightRecord E R other → line ≡ line_of (credential_in other) → other ≡ bytes
 
-module _ (E R : ℕ) (few-entities : E < 100) (few_names : R < 100) where
+module _ (E R : ℕ) (few_entities : E < 100) (few_names : R < 100) where
   -- two records with the same line are equal
   pub record_one : (one two : List ℕ) → RightRecord E R one → RightRecord E R two → line_of (credential_in one) ≡ line_of (credential_in two) → one ≡ two
   record_one one two (m, v) (n, w) e =
       sym (own_record E R one (m, v))
-      ∙ ap bytes_of (line_one E R few-entities few_names (credential_in one) (credential_in two) (valid_record E R one v) (valid_record E R two w) e)
+      ∙ ap bytes_of (line_one E R few_entities few_names (credential_in one) (credential_in two) (valid_record E R one v) (valid_record E R two w) e)
       ∙ own_record E R two (n, w)
 
   -- a right line has exactly one record

@@ -61,9 +61,9 @@ module _ (line : List ℕ) where
         (headed 4 (omega arith) (small_more 2 (omega arith) (small_more B b (small_more s m
         (more (at + 4) (more name (zeros (zeros (zeros (zeros small_none))))))))))
 
-    body-small : (at : ℕ) → Small (body_from line A r at)
+    body_small : (at : ℕ) → Small (body_from line A r at)
     unfolding body_from
-    body-small at =
+    body_small at =
         let dot = behind line at in
         let end = behind line (dot + 2) in
         small_cond (eqb (byte_at line dot) 10)
@@ -79,7 +79,7 @@ module _ (line : List ℕ) where
       let name = behind line 1 + 2 in
       let end = behind line name in
       small_cond (begins arrow (drop end line))
-      (body-small (number_at line 1) (number_at line name) (number_small line 1) (number_small line name) (end + 5))
+      (body_small (number_at line 1) (number_at line name) (number_small line 1) (number_small line name) (end + 5))
       (zeros (zeros (zeros (zeros (zeros (zeros (zeros (zeros (zeros (zeros (zeros (zeros small_none))))))))))))
 
   pub candidate_short : length (line_of (credential_in (candidate_of line))) ≤ most_bytes

@@ -34,18 +34,18 @@ module _ (line : List ℕ) (A r at B : ℕ) (b : B < 100) where
       rw (first_there line (behind line at) 10 [] first.more, first.number)
 
   module _ (s : ℕ) (m : s < 100) where
-    role-read : drop at line ≡ decimal B ++ named s end → body_from line A r at ≡ 2 ∷ A ∷ r ∷ B ∷ s ∷ 0 ∷ 0 ∷ 0 ∷ 0 ∷ 0 ∷ 0 ∷ 0 ∷ []
+    role_read : drop at line ≡ decimal B ++ named s end → body_from line A r at ≡ 2 ∷ A ∷ r ∷ B ∷ s ∷ 0 ∷ 0 ∷ 0 ∷ 0 ∷ 0 ∷ 0 ∷ 0 ∷ []
     unfolding body_from
-    role-read e =
+    role_read e =
         let first = stands line at B 46 _ refl b e in
         let dot = behind line at in
         let name = stands_behind line dot (ascii ".r") s 10 [] refl m first.more in
         rw (first_there line dot 46 _ first.more, first_there line (behind line (dot + 2)) 10 [] name.more, first.number, name.number)
 
-    link-read : (t : ℕ) → t < 100 → drop at line ≡ decimal B ++ named s (named t end)
+    link_read : (t : ℕ) → t < 100 → drop at line ≡ decimal B ++ named s (named t end)
         → body_from line A r at ≡ 3 ∷ A ∷ r ∷ s ∷ t ∷ 0 ∷ 0 ∷ 0 ∷ 0 ∷ 0 ∷ 0 ∷ 0 ∷ []
     unfolding body_from begins
-    link-read t k e =
+    link_read t k e =
         let first = stands line at B 46 _ refl b e in
         let dot = behind line at in
         let name = stands_behind line dot (ascii ".r") s 46 _ refl m first.more in
@@ -54,10 +54,10 @@ module _ (line : List ℕ) (A r at B : ℕ) (b : B < 100) where
         rw (first_there line dot 46 _ first.more, first_there line next 46 _ name.more, name.more, name.number, last.number)
 
     -- an intersection, up to where its second part begins
-    parts-read : (rest : List ℕ) → drop at line ≡ decimal B ++ named s (ascii " & " ++ rest)
+    parts_read : (rest : List ℕ) → drop at line ≡ decimal B ++ named s (ascii " & " ++ rest)
         → (next : ℕ) × (body_from line A r at ≡ parts_from line A r B s next) × (drop next line ≡ ascii " & " ++ rest)
     unfolding body_from begins
-    parts-read rest e =
+    parts_read rest e =
         let first = stands line at B 46 _ refl b e in
         let dot = behind line at in
         let name = stands_behind line dot (ascii ".r") s 32 _ refl m first.more in
@@ -113,7 +113,7 @@ name_front : (r : ℕ) (rest : List ℕ) → name_text r ++ rest ≡ named r res
 unfolding name_text
 name_front r rest = refl
 
-module _ (E R : ℕ) (few-entities : E < 100) (few_names : R < 100) where
+module _ (E R : ℕ) (few_entities : E < 100) (few_names : R < 100) where
   pub candidate_is : (c : Credential) → Valid E R c → candidate_of (line_of c) ≡ bytes_of c
   unfolding body_text parts_text entity_text bytes_of
   candidate_is (A · r ⟵ entity B) ((a, n), b) =
@@ -121,11 +121,11 @@ module _ (E R : ℕ) (few-entities : E < 100) (few_names : R < 100) where
       c ∙ entity_read _ A r at B (omega arith) there
   candidate_is (A · r ⟵ role (B · s)) ((a, n), (b, m)) =
       let (at, c, there) = head_read _ A r (decimal B ++ named s end) (omega arith) (omega arith) (line_front A r (role (B · s)) _ (role_front B s newline)) in
-      c ∙ role-read _ A r at B (omega arith) s (omega arith) there
+      c ∙ role_read _ A r at B (omega arith) s (omega arith) there
   candidate_is (A · r ⟵ link s t) ((a, n), (m, k)) =
       let (at, c, there) =
       head_read _ A r (decimal A ++ named s (named t end)) (omega arith) (omega arith) (line_front A r (link s t) _ (simp (append_assoc, role_front, name_front))) in
-      c ∙ link-read _ A r at A (omega arith) s (omega arith) t (omega arith) there
+      c ∙ link_read _ A r at A (omega arith) s (omega arith) t (omega arith) there
   candidate_is (A · r ⟵ intersection []) (_, (l, _, _)) = absurd (omega arith)
   candidate_is (A · r ⟵ intersection (ρ ∷ [])) (_, (l, _, _)) = absurd (omega arith)
   candidate_is (A · r ⟵ intersection (B · s ∷ C · t ∷ [])) ((a, n), (_, _, v)) =
@@ -134,7 +134,7 @@ module _ (E R : ℕ) (few-entities : E < 100) (few_names : R < 100) where
       let (at, c, there) =
       head_read _ A r (decimal B ++ named s (joined C (named t end))) (omega arith) (omega arith)
       (line_front A r (intersection (B · s ∷ C · t ∷ [])) _ (simp (append_assoc, role_front))) in
-      let (next, p, from) = parts-read _ A r at B (omega arith) s (omega arith) _ there in
+      let (next, p, from) = parts_read _ A r at B (omega arith) s (omega arith) _ there in
       c ∙ p ∙ two_read _ A r B s next C t (omega arith) (omega arith) from
   candidate_is (A · r ⟵ intersection (B · s ∷ C · t ∷ D · u ∷ [])) ((a, n), (_, _, v)) =
       let (b, m) = v (B · s) (Memᴰ.head refl) in
@@ -143,7 +143,7 @@ module _ (E R : ℕ) (few-entities : E < 100) (few_names : R < 100) where
       let (at, c, there) =
       head_read _ A r (decimal B ++ named s (joined C (named t (joined D (named u end))))) (omega arith) (omega arith)
       (line_front A r (intersection (B · s ∷ C · t ∷ D · u ∷ [])) _ (simp (append_assoc, role_front))) in
-      let (next, p, from) = parts-read _ A r at B (omega arith) s (omega arith) _ there in
+      let (next, p, from) = parts_read _ A r at B (omega arith) s (omega arith) _ there in
       c ∙ p ∙ three_read _ A r B s next C t (omega arith) (omega arith) D u (omega arith) (omega arith) from
   candidate_is (A · r ⟵ intersection (ρ ∷ σ ∷ τ ∷ υ ∷ more)) (_, (_, l, _)) = absurd (omega arith)
 

@@ -77,10 +77,10 @@ module _ (line : List ℕ) (at second : ℕ) (found flag : Bool) (tells : found 
   behind_one f = rw (two_is, f)
 
   module _ (first : ℕ) (here : first ≡ byte_at line at) where
-    pub number-two : flag ≡ true → 10 * (first % 16) + second % 16 ≡ number_at line at
+    pub number_two : flag ≡ true → 10 * (first % 16) + second % 16 ≡ number_at line at
     unfolding number_at
-    number-two f = rw (two_is, f, here, is)
+    number_two f = rw (two_is, f, here, is)
 
-    pub number-one : flag ≡ false → first % 16 ≡ number_at line at
+    pub number_one : flag ≡ false → first % 16 ≡ number_at line at
     unfolding number_at
-    number-one f = rw (two_is, f, here)
+    number_one f = rw (two_is, f, here)

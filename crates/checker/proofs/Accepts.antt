@@ -17,7 +17,7 @@ use Rattle.rt0.specs.Sizes.{slip_lines, slip_bytes}
 use Rattle.rt0.proofs.Slips.{slip_sound, slip_lasts}
 use Rattle.rt0.proofs.Books.{book_keeps}
 use Rattle.rt0.proofs.SlipBytes.{length_bytes_of, lines_of_bytes_of, bytes_of_small}
-use Rattle.rt0.proofs.Bounds.{slip-fits}
+use Rattle.rt0.proofs.Bounds.{slip_fits}
 use Rattle.base.specs.Refusals.{refused, passed}
 use Rattle.base.proofs.Refusals.{clear_first, clear_later, clear_both, due_number}
 use Rattle.bundle.specs.declared.read.Sizes.{Sizes}
@@ -31,19 +31,19 @@ use Rattle.bundle.proofs.Questions.{asked_clear, clear_asked}
 use Rattle.checker.specs.declared.check.Checked.TheVariants.{Accepted}
 use Rattle.checker.specs.Rows.{checker_rows, Checks}
 use Rattle.checker.specs.Shown.{Shown}
-use Rattle.checker.proofs.Refusals.{later, checker_numbers, slip-clear, clear-slip}
+use Rattle.checker.proofs.Refusals.{later, checker_numbers, slip_clear, clear_slip}
 
 module _ (bundle : List ℕ) (q : Question) (slip : List ℕ) where
   -- From an acceptance to what it shows, and back.
 
   module _ (n : ℕ) where
-    accepted-shown : Checks bundle q slip (Accepted n) → Shown bundle q slip n
-    accepted-shown (refused d _) = absurd (omega (arith, due_number (checker_rows bundle q slip) (checker_numbers bundle q slip) 0 0 d))
-    accepted-shown (passed _ _ c lines) =
+    accepted_shown : Checks bundle q slip (Accepted n) → Shown bundle q slip n
+    accepted_shown (refused d _) = absurd (omega (arith, due_number (checker_rows bundle q slip) (checker_numbers bundle q slip) 0 0 d))
+    accepted_shown (passed _ _ c lines) =
         let accepts : Accepts bundle (sizes_in bundle) = record { clear = clear_first (reader_rows bundle) (later bundle q slip) c; said = refl } in
-        let (question-none, slip-none) = clear_later (reader_rows bundle) (later bundle q slip) c in
-        let asked = clear_asked bundle (sizes_in bundle) q accepts question-none in
-        let (some_line, most_lines, size, right) = clear-slip bundle q slip (sizes_in bundle) accepts slip-none in
+        let (question_none, slip_none) = clear_later (reader_rows bundle) (later bundle q slip) c in
+        let asked = clear_asked bundle (sizes_in bundle) q accepts question_none in
+        let (some_line, most_lines, size, right) = clear_slip bundle q slip (sizes_in bundle) accepts slip_none in
         record {
           sizes = sizes_in bundle;
           asked = asked;
@@ -53,21 +53,21 @@ module _ (bundle : List ℕ) (q : Question) (slip : List ℕ) where
           right = rw lines right;
         }
 
-    shown-accepted : Shown bundle q slip n → Checks bundle q slip (Accepted n)
-    shown-accepted h =
+    shown_accepted : Shown bundle q slip n → Checks bundle q slip (Accepted n)
+    shown_accepted h =
         let asked = h.asked in
         let lines : n ≡ length slip / 8 = omega (arith, h.size) in
-        let rows = slip-clear bundle q slip h.sizes asked.accepts n h.some_line h.most_lines h.size h.right in
+        let rows = slip_clear bundle q slip h.sizes asked.accepts n h.some_line h.most_lines h.size h.right in
         passed refl refl (clear_both (reader_rows bundle) (later bundle q slip) asked.accepts.clear (asked_clear bundle h.sizes q asked, rows)) lines
 
     -- Accepted exactly when the slip shows it.
-    pub accepted-exactly : Checks bundle q slip (Accepted n) ↔ Shown bundle q slip n
-    accepted-exactly = (accepted-shown, shown-accepted)
+    pub accepted_exactly : Checks bundle q slip (Accepted n) ↔ Shown bundle q slip n
+    accepted_exactly = (accepted_shown, shown_accepted)
 
     -- What is accepted is a membership.
-    pub accepted-member : Checks bundle q slip (Accepted n) → Member (held bundle) (role_asked q) q.person
-    accepted-member h =
-        let s = accepted-shown h in
+    pub accepted_member : Checks bundle q slip (Accepted n) → Member (held bundle) (role_asked q) q.person
+    accepted_member h =
+        let s = accepted_shown h in
         let sound = holding_sound bundle s.sizes s.asked.accepts in
         slip_sound (book_in bundle) (held bundle) sound.numbered.only (lines_of slip n) (role_asked q) q.person s.right
 
@@ -88,7 +88,7 @@ member_accepted bundle s q asked m =
     let sound = holding_sound bundle s accepts in
     let E : entities_of bundle ≤ 32 = omega (arith, contents.entities, contents.entities_most) in
     let (lines, right, once, some_line, most_lines) =
-    slip-fits _ _ E (held bundle) sound.valid (book_in bundle) sound.numbered sound.few (role_asked q) q.person m in
+    slip_fits _ _ E (held bundle) sound.valid (book_in bundle) sound.numbered sound.few (role_asked q) q.person m in
     let size = length_bytes_of lines in
     let back : lines_of (bytes_of lines) (length lines) ≡ lines = rw append-nil at (lines_of_bytes_of lines []) in
     let shown : Shown bundle q (bytes_of lines) (length lines) =
@@ -96,7 +96,7 @@ member_accepted bundle s q asked m =
     record {
       slip = bytes_of lines;
       lines = length lines;
-      accepted = (accepted-exactly bundle q (bytes_of lines) (length lines)).1 shown;
+      accepted = (accepted_exactly bundle q (bytes_of lines) (length lines)).1 shown;
       size = omega arith;
       small =
           bytes_of_small _ _ (held bundle) sound.valid (book_in bundle) _ sound.numbered (omega arith) (omega (arith, sound.few))
@@ -130,7 +130,7 @@ pub written_accepted : (bundle : List ℕ) (s : Sizes) (q : Question) → Asked 
 written_accepted bundle s q asked bytes n some_line most_lines long right =
     let start = take (8 * n) bytes in
     let same : lines_of start n ≡ lines_of bytes n = same_lines start bytes n (λ k l. get_or-take (8 * n) bytes k 0 l) in
-    (accepted-exactly bundle q start n).1 (record {
+    (accepted_exactly bundle q start n).1 (record {
       sizes = s;
       asked = asked;
       some_line = some_line;
@@ -146,11 +146,11 @@ pub accepted_kept : (bundle more : List ℕ) (s t : Sizes) (q : Question) (slip 
     → s.entities ≡ t.entities → s.names ≡ t.names → Keeps (book_in bundle) (book_in more)
     → Checks bundle q slip (Accepted n) → Checks more q slip (Accepted n)
 accepted_kept bundle more s t q slip n h k E R keeps c =
-    let shown = (accepted-exactly bundle q slip n).0 c in
+    let shown = (accepted_exactly bundle q slip n).0 c in
     let same : shown.sizes ≡ s = shown.asked.accepts.said ∙ sym h.said in
     let entities : shown.sizes.entities ≡ t.entities = ap (λ (x : Sizes). x.entities) same ∙ E in
     let names : shown.sizes.names ≡ t.names = ap (λ (x : Sizes). x.names) same ∙ R in
-    (accepted-exactly more q slip n).1 (record {
+    (accepted_exactly more q slip n).1 (record {
       sizes = t;
       asked = record {
         accepts = k;

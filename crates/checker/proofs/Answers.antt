@@ -32,7 +32,7 @@ slip_length_right n h =
 module _ (book : Book) (ρ : Role) (D : ℕ) (slip : List ℕ) where
   pub last_is : (n : ℕ) (f : Option Fact) (b : Bool) → f ≡ stated book (item (lines_of slip n) n) → b ≡ same_fact f (ρ ∋ D)
       → last_states book ρ D slip n ≡ b
-  last_is n f b f-is b-is = rw (b-is, f-is)
+  last_is n f b f_is b_is = rw (b_is, f_is)
 
   pub last_refused : last_states book ρ D slip (length slip / 8) ≡ false → Refused 11 0 ≡ check_by slip (last_tests book ρ D slip)
   unfolding check_by last_tests

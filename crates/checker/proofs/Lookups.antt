@@ -82,8 +82,8 @@ line_inside slip n (suc m) h =
 pub stated_inside : (book : Book) (slip : List ℕ) (n p member number : ℕ) (k : Option Credential) (f : Option Fact)
     → outside n p ≡ false → number ≡ get_or slip (8 * (p - 1) + 1) 0 → member ≡ get_or slip (8 * (p - 1)) 0
     → k ≡ book number → f ≡ fact_of member k → f ≡ stated book (item (lines_of slip n) p)
-stated_inside book slip n p member number k f h number_is member_is k-is f-is =
-    rw (line_inside slip n p h, ← number_is, ← member_is, ← k-is) f-is
+stated_inside book slip n p member number k f h number_is member_is k_is f_is =
+    rw (line_inside slip n p h, ← number_is, ← member_is, ← k_is) f_is
 
 -- Premises and what they have to state.
 
@@ -111,18 +111,18 @@ picked (suc (suc (suc j))) first second third facts h a b c = absurd (omega arit
 -- which member X it is about; the premise n, what it states and what is wanted.
 
 module _ (book : Book) (earlier : List Line) (D c p q s j : ℕ) (member number : ℕ) (k : Option Credential)
-    (member_is : member ≡ D) (number_is : number ≡ c) (k-is : k ≡ book number) where
+    (member_is : member ≡ D) (number_is : number ≡ c) (k_is : k ≡ book number) where
   pub premise_useless : useless k member ≡ true → true ≡ premise_wrong book earlier (line D c p q s) j
   unfolding premise_wrong
-  premise_useless u = rw (← number_is, ← k-is, ← member_is, u)
+  premise_useless u = rw (← number_is, ← k_is, ← member_is, u)
 
   pub premise_judged : (f X n : ℕ) (first found wanted : Option Fact) → useless k member ≡ false → f ≡ p
       → first ≡ stated book (item earlier f) → X ≡ member_of first → n ≡ premise_of (line D c p q s) j
       → wanted ≡ wanted_at k member X j → found ≡ stated book (item earlier n)
       → misses wanted found n ≡ premise_wrong book earlier (line D c p q s) j
   unfolding premise_wrong
-  premise_judged f X n first found wanted useful f-is first-is X-is n-is wanted-is found-is =
-      rw (← n-is, ← found-is, ← f-is, ← first-is, ← X-is, ← number_is, ← k-is, ← member_is, ← wanted-is, useful)
+  premise_judged f X n first found wanted useful f_is first_is X-is n_is wanted_is found_is =
+      rw (← n_is, ← found_is, ← f_is, ← first_is, ← X-is, ← number_is, ← k_is, ← member_is, ← wanted_is, useful)
 
 -- A line, by its premises: where one is wrong it is the first wrong line, and where all three are right it is passed.
 

@@ -13,7 +13,7 @@ use Rattle.rt0.specs.Slip.{Line, ◌∋◌, Says, RightSlip, SlipFor}
 use Rattle.rt0.specs.Bytes.{line_from, lines_of}
 use Rattle.rt0.specs.Sizes.{slip_lines, slip_bytes}
 use Rattle.rt0.proofs.SlipBytes.{lines_of_at}
-use Rattle.base.specs.Lowest.{LowestBelow, lowest}
+use Rattle.base.specs.Lowest.{LowestBelow}
 use Rattle.base.specs.Refusals.{Row, AllOnePlace, AllNumbered, OnePlace, FromOne, Finds, Due, Clear, Refusal, test, zero_if, lowest_from_one, given, clear, refused, passed, first}
 use Rattle.base.proofs.Flags.{Tells, or_tells_three, eq_tells, lt_tells, not_tells, not_true_false, clash_flag}
 use Rattle.base.proofs.Lowest.{Missed}
@@ -96,21 +96,21 @@ module _ (E R : ℕ) (cs : List Credential) (v : AllValid E R cs) (book : Book) 
   lines_find = finds_as _ (lowest_finds_from_one _ _) (λ p. (λ (k, e, a). (k, e, (broken_lowest k).0 a), λ (k, e, b). (k, e, (broken_lowest k).1 b)))
 
   module _ (ρ : Role) (D : ℕ) where
-    last-tells : Missed (line_wrong book slip) (length slip / 8)
+    last_tells : Missed (line_wrong book slip) (length slip / 8)
         → Tells (not (last_states book ρ D slip (length slip / 8)))
         (RightSlip book (lines_in slip) × (Says book (lines_in slip) (length (lines_in slip)) (ρ ∋ D) → ⊥))
-    last-tells m =
+    last_tells m =
         let states = not_tells (last_states book ρ D slip (length slip / 8)) (last_right book slip (length slip / 8) ρ D) in
         (λ h. (all_right.0 m, states.0 h), λ w. states.1 w.1)
 
     -- the tests of a slip tell its rows, in their order
-    pub slip-told : Told (slip_rows book ρ D slip) (first (slip_tests book ρ D slip))
+    pub slip_told : Told (slip_rows book ρ D slip) (first (slip_tests book ρ D slip))
     unfolding slip_tests line_tests last_tests
-    slip-told =
+    slip_told =
         told_more (test 9 (zero_if (slip_length_wrong (length slip)))) (line_tests book ρ D slip) _ _ refl (zero_finds _ (length_tells (length slip)))
         (λ _. told_more (test 10 (lowest_from_one (line_wrong book slip) (length slip / 8))) (last_tests book ρ D slip) _ _ refl lines_find
         (λ none. told_more (test 11 (zero_if (not (last_states book ρ D slip (length slip / 8))))) [] _ _ refl
-        (zero_finds _ (last-tells (unbroken none))) (λ _. none_due tt)))
+        (zero_finds _ (last_tells (unbroken none))) (λ _. none_due tt)))
       where
         unbroken : ((place : ℕ) × FromOne (FirstBroken book (lines_in slip)) place → ⊥) → Missed (line_wrong book slip) (length slip / 8)
         unbroken none = none_missed _ _ (λ k a. none (suc k, (k, refl, (broken_lowest k).0 a)))
@@ -136,18 +136,18 @@ module _ (bundle : List ℕ) (q : Question) (slip : List ℕ) where
 
   module _ (s : Sizes) (h : Accepts bundle s) where
     -- the question's
-    pub question-refused : question_wrong s.entities s.names q ≡ true → Checks bundle q slip (Refused 7 0)
-    question-refused w =
+    pub question_refused : question_wrong s.entities s.names q ≡ true → Checks bundle q slip (Refused 7 0)
+    question_refused w =
         refused (due_later (reader_rows bundle) later 7 0 h.clear (inl (refl, question_applies bundle s q h w))) refl
 
-    told-slip : Told (slip_rows (book_in bundle) (role_asked q) q.person slip) (first (slip_tests (book_in bundle) (role_asked q) q.person slip))
-    told-slip = let sound = holding_sound bundle s h in slip-told _ _ _ sound.valid (book_in bundle) sound.numbered.only slip (role_asked q) q.person
+    told_slip : Told (slip_rows (book_in bundle) (role_asked q) q.person slip) (first (slip_tests (book_in bundle) (role_asked q) q.person slip))
+    told_slip = let sound = holding_sound bundle s h in slip_told _ _ _ sound.valid (book_in bundle) sound.numbered.only slip (role_asked q) q.person
 
     -- what the tests of the slip give
-    pub slip-answered : (answer : Checked) → question_wrong s.entities s.names q ≡ false
+    pub slip_answered : (answer : Checked) → question_wrong s.entities s.names q ≡ false
         → answer ≡ check_by slip (slip_tests (book_in bundle) (role_asked q) q.person slip) → Checks bundle q slip answer
     unfolding check_by
-    slip-answered answer w e = rw e (by (first (slip_tests (book_in bundle) (role_asked q) q.person slip)) told-slip)
+    slip_answered answer w e = rw e (by (first (slip_tests (book_in bundle) (role_asked q) q.person slip)) told_slip)
       where
         by : (x : Refusal) → Told (slip_rows (book_in bundle) (role_asked q) q.person slip) x → Checks bundle q slip (checked_for slip x)
         by (given n p) (due d) =
@@ -169,20 +169,20 @@ module _ (bundle : List ℕ) (q : Question) (slip : List ℕ) where
 
           after : (w : Bool) → question_wrong s.entities s.names q ≡ w
               → Checks bundle q slip (cond w (Refused 7 0) (check_by slip (slip_tests (book_in bundle) (role_asked q) q.person slip)))
-          after true e = question-refused s accepts e
-          after false e = slip-answered s accepts _ e refl
+          after true e = question_refused s accepts e
+          after false e = slip_answered s accepts _ e refl
 
   -- where no row on the slip applies it shows what is asked, and the other way round
   module _ (s : Sizes) (h : Accepts bundle s) where
-    pub clear-slip : Clear (slip_rows (book_in bundle) (role_asked q) q.person slip)
+    pub clear_slip : Clear (slip_rows (book_in bundle) (role_asked q) q.person slip)
         → (1 ≤ length slip / 8) × (length slip / 8 ≤ slip_lines) × (length slip ≡ 8 * (length slip / 8))
         × SlipFor (book_in bundle) (role_asked q) q.person (lines_of slip (length slip / 8))
-    clear-slip (length_none, (line_none, (last_none, _))) =
+    clear_slip (length_none, (line_none, (last_none, _))) =
         let sound = holding_sound bundle s h in
-        let none-wrong : Missed (line_wrong (book_in bundle) slip) (length slip / 8) =
+        let none_wrong : Missed (line_wrong (book_in bundle) slip) (length slip / 8) =
         none_missed _ _
         (λ k a. line_none (suc k, (k, refl, (broken_lowest _ _ _ sound.valid (book_in bundle) sound.numbered.only slip k).0 a))) in
-        let right = (all_right _ _ _ sound.valid (book_in bundle) sound.numbered.only slip).0 none-wrong in
+        let right = (all_right _ _ _ sound.valid (book_in bundle) sound.numbered.only slip).0 none_wrong in
         let (some_line, most_lines, size) = slip_length_right (length slip) (not_true_false _ (λ w. length_none (0, (refl, (length_tells (length slip)).0 w)))) in
         (some_line, most_lines, size, record { right = right; last = by (last_states (book_in bundle) (role_asked q) q.person slip (length slip / 8)) refl right })
       where
@@ -192,9 +192,9 @@ module _ (bundle : List ℕ) (q : Question) (slip : List ℕ) where
         by false e right =
             absurd (last_none (0, (refl, (right, λ says. clash_flag ((last_right (book_in bundle) slip (length slip / 8) (role_asked q) q.person).1 says) e))))
 
-    pub slip-clear : (n : ℕ) → 1 ≤ n → n ≤ slip_lines → length slip ≡ 8 * n → SlipFor (book_in bundle) (role_asked q) q.person (lines_of slip n)
+    pub slip_clear : (n : ℕ) → 1 ≤ n → n ≤ slip_lines → length slip ≡ 8 * n → SlipFor (book_in bundle) (role_asked q) q.person (lines_of slip n)
         → Clear (slip_rows (book_in bundle) (role_asked q) q.person slip)
-    slip-clear n some_line most_lines size shown =
+    slip_clear n some_line most_lines size shown =
         let sound = holding_sound bundle s h in
         let lines : length slip / 8 ≡ n = omega arith in
         let all : SlipFor (book_in bundle) (role_asked q) q.person (lines_of slip (length slip / 8)) = rw lines shown in
@@ -210,7 +210,7 @@ module _ (bundle : List ℕ) (q : Question) (slip : List ℕ) where
   some_lines : Clear (checker_rows bundle q slip) → 0 ≡ length slip / 8 → ⊥
   some_lines c e =
       let accepts : Accepts bundle (sizes_in bundle) = record { clear = clear_first (reader_rows bundle) later c; said = refl } in
-      omega (arith, (clear-slip (sizes_in bundle) accepts (clear_later (reader_rows bundle) later c).1).0)
+      omega (arith, (clear_slip (sizes_in bundle) accepts (clear_later (reader_rows bundle) later c).1).0)
 
   -- two answers that keep the promise are equal
   pub answers_equal : (one two : Checked) → Checks bundle q slip one → Checks bundle q slip two → one ≡ two

@@ -27,9 +27,9 @@ use Rattle.checker.specs.Checking.{last_states}
 pub same_fact_lem : (o : Option Fact) (f : Fact) → same_fact o f ≡ true → o ≡ some f
 same_fact_lem none f h = absurd (false≢true h)
 same_fact_lem (some (A · r ∋ D)) (B · s ∋ X) h =
-    let (role_same, member-same) = both_true (eqb A B && eqb r s) (eqb D X) h in
-    let (entity-same, name-same) = both_true (eqb A B) (eqb r s) role_same in
-    cc (eqb-true A B entity-same, eqb-true r s name-same, eqb-true D X member-same)
+    let (role_same, member_same) = both_true (eqb A B && eqb r s) (eqb D X) h in
+    let (entity_same, name_same) = both_true (eqb A B) (eqb r s) role_same in
+    cc (eqb-true A B entity_same, eqb-true r s name_same, eqb-true D X member_same)
 
 pub fact_same : (o : Option Fact) (f : Fact) → o ≡ some f → same_fact o f ≡ true
 fact_same o (B · s ∋ X) e = rw (e, eq-eqb B B refl, eq-eqb s s refl, eq-eqb X X refl)
@@ -98,7 +98,7 @@ module _ (book : Book) (earlier : List Line) (D c p q s : ℕ) where
       record { first = fact_passes _ _ first; second = fact_passes _ _ second; third = zero_passes s third }
   follows_passes (A · r ⟵ intersection (ρ ∷ σ ∷ τ ∷ [])) (first, (second, (third, _))) =
       record { first = fact_passes _ _ first; second = fact_passes _ _ second; third = fact_passes _ _ third }
-  follows_passes (A · r ⟵ intersection (ρ ∷ σ ∷ τ ∷ υ ∷ ρs)) (first, (second, (third, no-premise))) = absurd no-premise
+  follows_passes (A · r ⟵ intersection (ρ ∷ σ ∷ τ ∷ υ ∷ ρs)) (first, (second, (third, no_premise))) = absurd no_premise
 
   -- the credential that a line names is there, where its first premise passes
   credential_there : (k : Option Credential) → Passes k 0 → (x : Credential) × (k ≡ some x)

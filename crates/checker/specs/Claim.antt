@@ -4,7 +4,7 @@ use Rattle.std.proofs.Math.Option.{Option, none, some}
 use Rattle.rt0.specs.Slip.{Fact, ◌∋◌}
 use Rattle.records.specs.declared.form.Head.{Head}
 use Rattle.records.specs.declared.form.Head.TheVariants.{Of}
-use Rattle.records.specs.declared.form.Head.TheVariants as none-there
+use Rattle.records.specs.declared.form.Head.TheVariants as none_there
 use Rattle.records.specs.Form.{role_of}
 use Rattle.checker.specs.declared.claim.Claim.{Claim}
 use Rattle.checker.specs.declared.claim.Claim.TheVariants.{That, Nothing}
@@ -17,7 +17,7 @@ fact_in Nothing = none
 -- the claim that a member is in a head, if there is one
 abbrev pub claim_of : ℕ → Head → Claim
 claim_of member (Of ρ) = That ρ member
-claim_of member none-there.Nothing = Nothing
+claim_of member none_there.Nothing = Nothing
 
 -- claim number j of three, counted from 0
 abbrev pub pick_claim : ℕ → Claim → Claim → Claim → Claim

@@ -69,8 +69,8 @@ module _ (c : Content) (bytes : List ℕ) where
     number = count c / 40
 
     -- from its place on
-    last-added : (i : ℕ) → start ≤ i → i < 510 → records_byte more number i ≡ last_byte (count c) bytes i
-    last-added i l m = among (dec_lt i 480) (dec_lt i (start + 12)) (dec_lt i 508) (ℕ_discrete i 508)
+    last_added : (i : ℕ) → start ≤ i → i < 510 → records_byte more number i ≡ last_byte (count c) bytes i
+    last_added i l m = among (dec_lt i 480) (dec_lt i (start + 12)) (dec_lt i 508) (ℕ_discrete i 508)
       where
         nothing : start + 12 ≤ i → 0 ≡ byte_at bytes (i - start)
         nothing k = sym (get_or-eq_default bytes 0 (omega arith))
@@ -92,17 +92,17 @@ module _ (c : Content) (bytes : List ℕ) where
             let many : records_in (count more) number ≡ count c % 40 + 1 = rw count_added (omega arith) in
             rw last (count_byte more number ∙ many)
 
-    pub block-added : (f : ℕ → ℕ) → ((i : ℕ) → i < start → f i ≡ records_byte c number i)
+    pub block_added : (f : ℕ → ℕ) → ((i : ℕ) → i < start → f i ≡ records_byte c number i)
         → (i : ℕ) → i < 510 → placed (count c) bytes f i ≡ records_byte more number i
     unfolding placed
-    block-added f same i l = among (dec_lt i start)
+    block_added f same i l = among (dec_lt i start)
       where
         among : Dec (i < start) → cond (ltb i start) (f i) (last_byte (count c) bytes i) ≡ records_byte more number i
         among (yes k) =
             rw (lt-ltb i start k)
             (same i k ∙ place_byte c number i (omega arith)
             ∙ sym (place_byte more number i (omega arith) ∙ ap (λ (r : List ℕ). byte_at r (i % 12)) (record_before (40 * number + i / 12) (omega arith))))
-        among (no k) = rw (le-ltb i start (omega arith)) (sym (last-added i (omega arith) l))
+        among (no k) = rw (le-ltb i start (omega arith)) (sym (last_added i (omega arith) l))
 
   -- a content with a right record more is valid
   pub valid_added : ValidContent c → count c < most_records → length bytes ≡ 12 → record_wrong c.entities c.names bytes ≡ false → ValidContent more
@@ -153,17 +153,17 @@ module _ (c : Content) (bytes buffer : List ℕ) (few : count c < most_records) 
     k = block_of (count c)
 
     -- what stood there below a place of the record block
-    held-byte : (i : ℕ) → i < start_of (count c) → byte_at (block buffer k) i ≡ records_byte c (count c / 40) i
+    held_byte : (i : ℕ) → i < start_of (count c) → byte_at (block buffer k) i ≡ records_byte c (count c / 40) i
     unfolding byte_of
-    held-byte i l =
+    held_byte i l =
         let number : (512 * k + i) / 512 ≡ suc (count c / 40) = omega arith in
         let place : (512 * k + i) % 512 ≡ i = omega arith in
         block_byte_lem buffer k i (omega arith)
         ∙ rw (number, place) at (starts (512 * k + i) (omega arith)) ∙ sealed_below (records_byte c (count c / 40)) i (omega arith)
 
-    first-held : (i : ℕ) → i < 510 → byte_at buffer i ≡ first_byte c i
+    first_held : (i : ℕ) → i < 510 → byte_at buffer i ≡ first_byte c i
     unfolding byte_of
-    first-held i l =
+    first_held i l =
         let number : i / 512 ≡ 0 = omega arith in
         let place : i % 512 ≡ i = omega arith in
         rw (number, place) at (starts i (omega arith)) ∙ sealed_below (first_byte c) i l
@@ -179,66 +179,66 @@ module _ (c : Content) (bytes buffer : List ℕ) (few : count c < most_records) 
       abbrev twice : List ℕ
       twice = sealed_at once 0
 
-      counted-size : length counted ≡ length buffer
-      counted-size = rw length-set put.same
+      counted_size : length counted ≡ length buffer
+      counted_size = rw length-set put.same
 
-      counted-else : (i : ℕ) → (i ≡ 3 → ⊥) → byte_at counted i ≡ byte_at stored i
-      counted-else i e = get_or-set_other stored 3 i (count c + 1) 0 e
+      counted_else : (i : ℕ) → (i ≡ 3 → ⊥) → byte_at counted i ≡ byte_at stored i
+      counted_else i e = get_or-set_other stored 3 i (count c + 1) 0 e
 
-      once-size : length once ≡ length buffer
+      once_size : length once ≡ length buffer
       unfolding sealed_at
-      once-size = length_replaced counted k _ (length_sealed _) (omega (arith, counted-size, count_added c bytes)) ∙ counted-size
+      once_size = length_replaced counted k _ (length_sealed _) (omega (arith, counted_size, count_added c bytes)) ∙ counted_size
 
-      twice-size : length twice ≡ length buffer
+      twice_size : length twice ≡ length buffer
       unfolding sealed_at
-      twice-size = length_replaced once 0 _ (length_sealed _) (omega (arith, once-size, count_added c bytes)) ∙ once-size
+      twice_size = length_replaced once 0 _ (length_sealed _) (omega (arith, once_size, count_added c bytes)) ∙ once_size
 
       -- bytes of other blocks
-      twice-else : (i : ℕ) → (i / 512 ≡ 0 → ⊥) → (i / 512 ≡ k → ⊥) → byte_at twice i ≡ byte_at buffer i
+      twice_else : (i : ℕ) → (i / 512 ≡ 0 → ⊥) → (i / 512 ≡ k → ⊥) → byte_at twice i ≡ byte_at buffer i
       unfolding sealed_at
-      twice-else i z e =
-          replaced_else once 0 _ (length_sealed _) (omega (arith, once-size, count_added c bytes)) i z
-          ∙ replaced_else counted k _ (length_sealed _) (omega (arith, counted-size, count_added c bytes)) i e
-          ∙ counted-else i (λ three. omega arith) ∙ put.others i e
+      twice_else i z e =
+          replaced_else once 0 _ (length_sealed _) (omega (arith, once_size, count_added c bytes)) i z
+          ∙ replaced_else counted k _ (length_sealed _) (omega (arith, counted_size, count_added c bytes)) i e
+          ∙ counted_else i (λ three. omega arith) ∙ put.others i e
 
       -- the record block
       block_is : (i : ℕ) → i < 510 → byte_at (block counted k) i ≡ records_byte (added c bytes) (count c / 40) i
       block_is i l =
-          block_byte_lem counted k i (omega arith) ∙ counted-else (512 * k + i) (λ three. omega arith) ∙ put.here i l
-          ∙ block-added c bytes twelve (byte_at (block buffer k)) held-byte i l
+          block_byte_lem counted k i (omega arith) ∙ counted_else (512 * k + i) (λ three. omega arith) ∙ put.here i l
+          ∙ block_added c bytes twelve (byte_at (block buffer k)) held_byte i l
 
       -- block 0
-      first-is : (i : ℕ) → i < 510 → byte_at (block once 0) i ≡ first_byte (added c bytes) i
+      first_is : (i : ℕ) → i < 510 → byte_at (block once 0) i ≡ first_byte (added c bytes) i
       unfolding sealed_at
-      first-is i l =
+      first_is i l =
           first_byte_lem once i (omega arith)
-          ∙ replaced_else counted k _ (length_sealed _) (omega (arith, counted-size, count_added c bytes)) i (λ e. omega arith) ∙ among (ℕ_discrete i 3)
+          ∙ replaced_else counted k _ (length_sealed _) (omega (arith, counted_size, count_added c bytes)) i (λ e. omega arith) ∙ among (ℕ_discrete i 3)
         where
           among : Dec (i ≡ 3) → byte_at counted i ≡ first_byte (added c bytes) i
           among (yes e) =
               let next : count c + 1 ≡ count (added c bytes) = omega (arith, count_added c bytes) in
               rw e (get_or-set_same stored 3 (count c + 1) 0 (omega (arith, put.same)) ∙ next)
-          among (no e) = counted-else i e ∙ put.others i (λ z. omega arith) ∙ first-held i l ∙ first_added c bytes i e
+          among (no e) = counted_else i e ∙ put.others i (λ z. omega arith) ∙ first_held i l ∙ first_added c bytes i e
 
       pub appended : twice ≡ written (added c bytes) buffer
       unfolding byte_of sealed_at
-      appended = is_written (added c bytes) buffer twice twice-size room
+      appended = is_written (added c bytes) buffer twice twice_size room
           (λ i l. among i l (ℕ_discrete (i / 512) 0) (ℕ_discrete (i / 512) k))
-          (λ i l. twice-else i (λ e. omega (arith, count_added c bytes)) (λ e. omega (arith, count_added c bytes)))
+          (λ i l. twice_else i (λ e. omega (arith, count_added c bytes)) (λ e. omega (arith, count_added c bytes)))
         where
           among : (i : ℕ) → i < size_of (added c bytes) → Dec (i / 512 ≡ 0) → Dec (i / 512 ≡ k)
               → byte_at twice i ≡ sealed (block_byte (added c bytes) (i / 512)) (i % 512)
           among i l (yes e) _ =
-              replaced_here once 0 _ (length_sealed _) (omega (arith, once-size, count_added c bytes)) i e
+              replaced_here once 0 _ (length_sealed _) (omega (arith, once_size, count_added c bytes)) i e
               ∙ byte_sealed (byte_at (block once 0)) (i % 512) (omega arith)
-              ∙ sealed_same (byte_at (block once 0)) (first_byte (added c bytes)) first-is (i % 512) ∙ rw e refl
+              ∙ sealed_same (byte_at (block once 0)) (first_byte (added c bytes)) first_is (i % 512) ∙ rw e refl
           among i l (no z) (yes e) =
               let next : i / 512 ≡ suc (count c / 40) = omega arith in
-              replaced_else once 0 _ (length_sealed _) (omega (arith, once-size, count_added c bytes)) i z
-              ∙ replaced_here counted k _ (length_sealed _) (omega (arith, counted-size, count_added c bytes)) i e
+              replaced_else once 0 _ (length_sealed _) (omega (arith, once_size, count_added c bytes)) i z
+              ∙ replaced_here counted k _ (length_sealed _) (omega (arith, counted_size, count_added c bytes)) i e
               ∙ byte_sealed (byte_at (block counted k)) (i % 512) (omega arith)
               ∙ sealed_same (byte_at (block counted k)) (records_byte (added c bytes) (count c / 40)) block_is (i % 512) ∙ rw next refl
-          among i l (no z) (no e) = twice-else i z e ∙ stays i l z e
+          among i l (no z) (no e) = twice_else i z e ∙ stays i l z e
 
 -- what the four steps do to a buffer, whatever content it starts with
 pub put_last : (before bytes stored : List ℕ) (n : ℕ) → n ≡ byte_at before 3 → PutBlock n bytes before stored

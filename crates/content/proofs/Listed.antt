@@ -49,8 +49,8 @@ module _ (E R : ℕ) (marks list : List ℕ) where
   twelve_given n l = length-take-le 12 (drop (12 * n) list) (rw length-drop (omega arith))
 
   module _ (whole : length list % 12 ≡ 0) (j : ℕ) where
-    listed-byte : (i : ℕ) → i < 510 → listed_byte list j i ≡ records_byte c j i
-    listed-byte i l = among (dec_lt i 480) (dec_lt (40 * j + i / 12) (whole_records list)) (dec_lt i 508) (ℕ_discrete i 508)
+    listed_byte_lem : (i : ℕ) → i < 510 → listed_byte list j i ≡ records_byte c j i
+    listed_byte_lem i l = among (dec_lt i 480) (dec_lt (40 * j + i / 12) (whole_records list)) (dec_lt i 508) (ℕ_discrete i 508)
       where
         n : ℕ
         n = 40 * j + i / 12
@@ -74,5 +74,5 @@ module _ (E R : ℕ) (marks list : List ℕ) where
             rw last (ap (λ (n : ℕ). records_in n j) (sym count_given) ∙ sym (count_byte c j))
 
     -- record block j + 1
-    pub block-given : sealed_block (listed_byte list j) ≡ sealed_block (records_byte c j)
-    block-given = sealed_block_same (listed_byte list j) (records_byte c j) listed-byte
+    pub block_given : sealed_block (listed_byte list j) ≡ sealed_block (records_byte c j)
+    block_given = sealed_block_same (listed_byte list j) (records_byte c j) listed_byte_lem

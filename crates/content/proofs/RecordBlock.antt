@@ -143,8 +143,8 @@ module _ (c : Content) (j : ℕ) (b : List ℕ) (h : (i : ℕ) → i < 510 → b
 
       gap : (f : Bool) → leb (12 * n) i ≡ f → i < 508 → beside_byte_wrong j n i (byte_at b i) ≡ false
       gap true e m =
-          let zero-here : byte_at b i ≡ 0 = h i l ∙ behind_byte c j i (leb-true (12 * n) i e) m in
-          rw (e, ne_eqb i 508 (λ e. omega arith), ne_eqb i 509 (λ e. omega arith), lt-ltb i 508 m, zero-here)
+          let zero_here : byte_at b i ≡ 0 = h i l ∙ behind_byte c j i (leb-true (12 * n) i e) m in
+          rw (e, ne_eqb i 508 (λ e. omega arith), ne_eqb i 509 (λ e. omega arith), lt-ltb i 508 m, zero_here)
       gap false e m = rw (e, ne_eqb i 508 (λ e. omega arith), ne_eqb i 509 (λ e. omega arith))
 
       among : Dec (i < 508) → Dec (i ≡ 508) → beside_byte_wrong j n i (byte_at b i) ≡ false

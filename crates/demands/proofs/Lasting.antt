@@ -7,7 +7,7 @@ use Rattle.rt0.specs.Credential.{Credential}
 use Rattle.bundle.specs.declared.question.Question.{Question}
 use Rattle.checker.specs.declared.check.Checked.TheVariants.{Accepted}
 use Rattle.checker.specs.Rows.{Checks}
-use Rattle.checker.proofs.Accepts.{accepted-exactly, accepted_lasts}
+use Rattle.checker.proofs.Accepts.{accepted_exactly, accepted_lasts}
 use Rattle.writer.specs.declared.answer.Wrote.TheVariants.{Length}
 use Rattle.writer.specs.Promise.{Appends}
 use Rattle.writer.specs.Appended.{Appended, no_more, one_more}
@@ -17,7 +17,7 @@ module _ (before : List ℕ) (n : ℕ) (q : Question) (slip : List ℕ) (lines :
   -- any number of appends
   pub slip_lasts : {after : List ℕ} {m : ℕ} {ks : List Credential} → Appended before n after m ks → Checks (take m after) q slip (Accepted lines)
   slip_lasts {after} {m} {ks} h =
-      let shown = (accepted-exactly (take n before) q slip lines).0 c in
+      let shown = (accepted_exactly (take n before) q slip lines).0 c in
       let grown = appended_grown before n shown.sizes shown.asked.accepts h in
       accepted_lasts (take n before) (take m after) shown.sizes grown.sizes q slip lines ks shown.asked.accepts grown.accepts
       grown.entities grown.names grown.held_more c

@@ -90,8 +90,8 @@ module _ (said : ℕ → Storage) where
   passed_none before = record { wrote = wrote_none before 0; counted = refl }
 
   module _ (i : ℕ) {before now : List ℕ} {next well : ℕ} where
-    pub passed-few : Passed said i before now next well → well ≤ i
-    passed-few p = omega (arith, p.counted, all_counted i)
+    pub passed_few : Passed said i before now next well → well ≤ i
+    passed_few p = omega (arith, p.counted, all_counted i)
 
     pub passed_more : {after : List ℕ} {last one : ℕ} (answer : Storage) → answer ≡ said (i + 1) → Passed said i before now next well
         → Wrote now next (line_text (i + 1) answer) after last → one ≡ well_of answer → Passed said (i + 1) before after last (well + one)
@@ -102,10 +102,10 @@ module _ (said : ℕ → Storage) where
         rw (add-one i) (record { wrote = wrote_more p.wrote line; counted = rw (p.counted, count) })
 
     -- and the last line
-    pub passed-end : {after : List ℕ} {r ill : ℕ} (n : ℕ) → i ≡ n → ill ≡ n - well → Passed said i before now next well
+    pub passed_end : {after : List ℕ} {r ill : ℕ} (n : ℕ) → i ≡ n → ill ≡ n - well → Passed said i before now next well
         → Wrote now next (end_text well ill) after r → Wrote before 0 (holders_text said n) after r
     unfolding holders_text
-    passed-end {after} {r} {ill} n e f p w =
+    passed_end {after} {r} {ill} n e f p w =
         let count : well ≡ wells said n = rw (← e) p.counted in
         let others : ill ≡ ills said n = omega (arith, all_counted n) in
         let last : Wrote now next (end_text (wells said n) (ills said n)) after r = rw (count, others) at w in

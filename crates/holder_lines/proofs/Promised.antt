@@ -91,8 +91,8 @@ module _ (bundle sheet before : List ℕ) where
     R : s.names ≡ names_of bundle
     R = cc h.said
 
-    sheet-clear : found ≡ true → Applies (sheet_row (names_of bundle) sheet) → ⊥
-    sheet-clear w (_, (_, wrong)) = wrong (rw R at (tells.0 w))
+    sheet_clear : found ≡ true → Applies (sheet_row (names_of bundle) sheet) → ⊥
+    sheet_clear w (_, (_, wrong)) = wrong (rw R at (tells.0 w))
 
     pub sheet_refused : found ≡ false → HoldersPromise bundle sheet before before (Refused 15 0)
     sheet_refused w =
@@ -100,16 +100,16 @@ module _ (bundle sheet before : List ℕ) where
 
     pub short_refused : found ≡ true → length before < holders_bytes → HoldersPromise bundle sheet before before (Refused 8 0)
     short_refused w l =
-        refused (due_later (reader_rows bundle) later 8 0 h.clear (inr (sheet-clear w, inl (refl, (refl, l))))) (untouched 8 0)
+        refused (due_later (reader_rows bundle) later 8 0 h.clear (inr (sheet_clear w, inl (refl, (refl, l))))) (untouched 8 0)
 
-    pub text-given : found ≡ true → holders_bytes ≤ length before → {after : List ℕ} {r : ℕ}
+    pub text_given : found ≡ true → holders_bytes ≤ length before → {after : List ℕ} {r : ℕ}
         → Wrote before 0 (holders_text (said_in bundle sheet) s.records) after r → HoldersPromise bundle sheet before after (Length r)
-    text-given w room {after} {r} wrote =
+    text_given w room {after} {r} wrote =
         let N : s.records ≡ records_of bundle = cc h.said in
         let few = text_few (said_in bundle sheet) s.records (omega (arith, (accepted_contents bundle s h).records_most)) in
         let (text, size) = wrote_text wrote (omega arith) in
         passed refl refl
-        (clear_both (reader_rows bundle) later h.clear (sheet-clear w, ((λ (_, (_, l)). omega arith), tt)))
+        (clear_both (reader_rows bundle) later h.clear (sheet_clear w, ((λ (_, (_, l)). omega arith), tt)))
         (record {
           shown = holders_text (said_in bundle sheet) s.records;
           given = record {
@@ -146,9 +146,9 @@ module _ (bundle sheet before : List ℕ) where
         let size : length_of one ≡ length_of two = g.length_said ∙ ap length shown ∙ sym h.length_said in
         (size, g.written ∙ ap₂ (λ (l : List ℕ) (n : ℕ). l ++ drop n before) shown size ∙ sym h.written)
 
-    pub holders-determined : (one two : Listed) → HoldersPromise bundle sheet before after_one one
+    pub holders_determined : (one two : Listed) → HoldersPromise bundle sheet before after_one one
         → HoldersPromise bundle sheet before after_two two → (one ≡ two) × (after_one ≡ after_two)
-    holders-determined one two p q =
+    holders_determined one two p q =
         let (number, place, both) = judged_same (holders_rows bundle sheet before) holders_places p q in
         let (size, bytes) = same_left one two both in
         (same_answer one two p q number place size, bytes)

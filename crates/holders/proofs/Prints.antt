@@ -16,7 +16,7 @@ use Rattle.bundle.proofs.Refusals.{reader_places}
 use Rattle.sheet.specs.Sheet.{sheet_row}
 use Rattle.answers.specs.Line.{refusal_line}
 use Rattle.said.specs.Line.{refuses}
-use Rattle.said.proofs.Line.{line_refused, line-given, one_line}
+use Rattle.said.proofs.Line.{line_refused, line_given, one_line}
 use Rattle.asked.proofs.Input.{bundle_part}
 use Rattle.lists.specs.declared.Listed.{Listed}
 use Rattle.lists.specs.declared.Listed.TheVariants.{Length, Refused}
@@ -35,10 +35,10 @@ pub asked : (input : List ℕ) (start : ℕ) (before after : List ℕ) (o : List
     → HoldersPromise (bundle_of input) (sheet_of input) before after o
 asked input start before after o s p =
     subst₂ (λ (bytes sheet : List ℕ). HoldersPromise bytes sheet before after o) (bundle_part sheet_bytes input start s)
-    (ap (λ (n : ℕ). take n input) s ∙ take-most input sheet_bytes) p
+    (ap (λ (n : ℕ). take n input) s ∙ take_most input sheet_bytes) p
   where
-    take-most : (l : List ℕ) (n : ℕ) → take (min n (length l)) l ≡ take n l
-    take-most l n = by (dec_le n (length l))
+    take_most : (l : List ℕ) (n : ℕ) → take (min n (length l)) l ≡ take n l
+    take_most l n = by (dec_le n (length l))
       where
         by : Dec (n ≤ length l) → take (min n (length l)) l ≡ take n l
         by (yes h) = let same : min n (length l) ≡ n = omega arith in rw same
@@ -55,8 +55,8 @@ module _ (input : List ℕ) where
     no_short : Clear short
     no_short = ((λ (_, (_, l)). omega arith), tt)
 
-    left-front : {after : List ℕ} (n : ℕ) (g : HoldersLeft (bundle_of input) (sheet_of input) before after (Length n)) → take n after ≡ g.shown
-    left-front n g = ap (take n) g.written ∙ take_at g.shown _ n (sym g.length_said)
+    left_front : {after : List ℕ} (n : ℕ) (g : HoldersLeft (bundle_of input) (sheet_of input) before after (Length n)) → take n after ≡ g.shown
+    left_front n g = ap (take n) g.written ∙ take_at g.shown _ n (sym g.length_said)
 
     pub prints_list : (after : List ℕ) (o : Listed) (l : Listing) → HoldersPromise (bundle_of input) (sheet_of input) before after o → Tells o l
         → ListsAllowed after l (Prints input)
@@ -67,8 +67,8 @@ module _ (input : List ℕ) where
           line = [];
           holds = line;
           allowed =
-              rw (size, append-nil (take n after), left-front n g)
-              (line-given (printed_rows input) (HoldersGiven (bundle_of input) (sheet_of input)) short no_short c g.given);
+              rw (size, append-nil (take n after), left_front n g)
+              (line_given (printed_rows input) (HoldersGiven (bundle_of input) (sheet_of input)) short no_short c g.given);
         }
     prints_list after (Refused n p) l (refused d k) (size, line, problem) =
         record {

@@ -16,7 +16,7 @@ use Rattle.rt0.proofs.Tables.{rounds_unique}
 use Rattle.rt0.proofs.Possible.{SameWithin, answers_within, answer_unique}
 use Rattle.rt0.proofs.House as RT0
 use Rattle.base.specs.Lowest.{lowest}
-use Rattle.base.specs.Refusals.{Row, Clear, Judged, refused, passed as answer-given}
+use Rattle.base.specs.Refusals.{Row, Clear, Judged, refused, passed as answer_given}
 use Rattle.base.proofs.Refusals.{due_clear, clear_first, clear_later, clear_both}
 use Rattle.records.specs.Kinds.{wrong_by}
 use Rattle.records.specs.Bytes.{credential_in}
@@ -125,7 +125,7 @@ right_from (some sheet) R e = (sheet_told R sheet).0 e
 module _ (k : CaseOnBytes) (right : RightCase k.case) (accepts : Accepts k.bundle (sizes k)) (held : held_in k.bundle ≡ k.case.held)
     (marks : (A : ℕ) → IsEntity k.case.entities A → shelves k.bundle A ≡ present_but k.case.absent A)
     (some_absent_lem : some_absent (shelves k.bundle) k.case.entities ≡ some_absent (present_but k.case.absent) k.case.entities)
-    (loose-names : (r : ℕ) → IsName k.case.names r → loose_on k.sheet r ≡ among k.case.loose r) where
+    (loose_names : (r : ℕ) → IsName k.case.names r → loose_on k.sheet r ≡ among k.case.loose r) where
   entities : entities_of k.bundle ≡ k.case.entities
   entities = sym (ap (λ (x : Sizes). x.entities) accepts.said)
 
@@ -133,7 +133,7 @@ module _ (k : CaseOnBytes) (right : RightCase k.case) (accepts : Accepts k.bundl
   names = sym (ap (λ (x : Sizes). x.names) accepts.said)
 
   same_open : SameWithin k.case.entities k.case.names (opens k.case) (open_on k.sheet k.bundle)
-  same_open (A · r) v = by k.sheet (loose-names r v.1)
+  same_open (A · r) v = by k.sheet (loose_names r v.1)
     where
       by : (sheet : Option (List ℕ)) → loose_on sheet r ≡ among k.case.loose r → opens k.case (A · r) ≡ open_on sheet k.bundle (A · r)
       by none e = rw (marks A v.0, ← e) (or_none (is_absent (present_but k.case.absent A)))
@@ -142,8 +142,8 @@ module _ (k : CaseOnBytes) (right : RightCase k.case) (accepts : Accepts k.bundl
   -- the word and the rounds of RT0's case are those of the bytes
   word_right : Word k k.case.verdict
   word_right =
-      let its-role : role_asked (question_of k) ≡ k.case.into = role_parts k.case.into in
-      rw (entities, names, held, its-role)
+      let its_role : role_asked (question_of k) ≡ k.case.into = role_parts k.case.into in
+      rw (entities, names, held, its_role)
       (answers_within k.case.entities k.case.names _ (open_on k.sheet k.bundle) same_open _ _ _ k.case.verdict right.0)
 
   rounds_right : Rounds (held_in k.bundle) k.case.rounds
@@ -155,11 +155,11 @@ module _ (k : CaseOnBytes) (right : RightCase k.case) (accepts : Accepts k.bundl
       (AnsweredWith (holding_with (open_on k.sheet k.bundle) k.bundle) (question_of k) before after o)
       → o ≡ answered k.case.verdict k.case.rounds o.lines
   settled rows clear before after o (refused d _) = absurd (due_clear rows o.number o.place clear d)
-  settled rows clear before after o (answer-given _ _ _ given) =
+  settled rows clear before after o (answer_given _ _ _ given) =
       let bytes = k.bundle in
       let same_word : given.word ≡ k.case.verdict =
       answer_unique (entities_of bytes) (names_of bytes) (open_on k.sheet bytes) (held_in bytes) _ _ _ _ given.answers word_right in
-      let same-rounds : o.rounds ≡ k.case.rounds = rounds_unique (held_in bytes) _ _ given.rounds rounds_right in
+      let same_rounds : o.rounds ≡ k.case.rounds = rounds_unique (held_in bytes) _ _ given.rounds rounds_right in
       cc given.outcome
 
   -- with enough memory that is so of the search
@@ -179,27 +179,27 @@ unfolding computed stated
 case_right k right e =
     let E = k.case.entities in
     let R = k.case.names in
-    let all-passed = ap (λ (x : Result). x.passes) e in
-    let accepts = pass_accepts k.bundle (sizes k) all-passed in
+    let all_passed = ap (λ (x : Result). x.passes) e in
+    let accepts = pass_accepts k.bundle (sizes k) all_passed in
     let held = ap (λ (x : Result). x.held) e in
     let in_range = ap (λ (x : Result). x.out_of_range) e in
-    let same-marks = ap (λ (x : Result). x.marks) e in
+    let same_marks = ap (λ (x : Result). x.marks) e in
     let marks : (A : ℕ) → IsEntity E A → shelves k.bundle A ≡ present_but k.case.absent A =
-    λ A i. same_at (shelves k.bundle) (present_but k.case.absent) (up_to E) same-marks A (up_to_holds E A i.above i.within) in
+    λ A i. same_at (shelves k.bundle) (present_but k.case.absent) (up_to E) same_marks A (up_to_holds E A i.above i.within) in
     let some_absent_lem = ap (λ (x : Result). x.some_absent_lem) e in
     let same_names = ap (λ (x : Result). x.names) e in
-    let loose-names : (r : ℕ) → IsName R r → loose_on k.sheet r ≡ among k.case.loose r =
+    let loose_names : (r : ℕ) → IsName R r → loose_on k.sheet r ≡ among k.case.loose r =
     λ r i. same_at (loose_on k.sheet) (among k.case.loose) (up_to R) same_names r (up_to_holds R r i.above i.within) in
     let sheet = right_from k.sheet R (ap (λ (x : Result). x.sheet) e) in
     record {
       asked = asked_right k.bundle (sizes k) (question_of k) accepts in_range;
-      checks = pass_checks k.bundle (sizes k) all-passed ∙ ap (λ (x : Result). x.checks) e;
+      checks = pass_checks k.bundle (sizes k) all_passed ∙ ap (λ (x : Result). x.checks) e;
       sheet = sheet;
       held = held;
       marks = marks;
-      word = word_right k right accepts held marks some_absent_lem loose-names;
-      rounds = rounds_right k right accepts held marks some_absent_lem loose-names;
-      promised = promised k right accepts held marks some_absent_lem loose-names in_range sheet;
+      word = word_right k right accepts held marks some_absent_lem loose_names;
+      rounds = rounds_right k right accepts held marks some_absent_lem loose_names;
+      promised = promised k right accepts held marks some_absent_lem loose_names in_range sheet;
     }
 
 -- every case states what is computed

@@ -15,7 +15,7 @@ use Rattle.bundle.specs.Held.{held as held_in}
 use Rattle.checker.specs.declared.check.Checked.{Checked}
 use Rattle.checker.specs.Premise.{premise_wrong, line_wrong}
 use Rattle.checker.specs.Checking.{last_tests, line_tests, slip_tests, check_by}
-use Rattle.checker.proofs.Refusals.{slip-answered}
+use Rattle.checker.proofs.Refusals.{slip_answered}
 use Rattle.house.specs.Bundles.{all_present}
 use Rattle.house.specs.Cases.{bundles, cases_on_bytes}
 use Rattle.house.specs.Slips.{SlipCase, slips, asked_of_p1, RightAnswer}
@@ -43,5 +43,5 @@ pub slips_right : (s : SlipCase) → s ∈ slips → RightAnswer s
 unfolding answer
 slips_right s i =
     let (accepts, held) = first_read in
-    slip-answered all_present asked_of_p1 (bytes_of s.lines) six accepts s.answer refl
+    slip_answered all_present asked_of_p1 (bytes_of s.lines) six accepts s.answer refl
     (rw held (sym (same_at (λ s. answer s.lines) (λ s. s.answer) slips all_as_stated s i)))

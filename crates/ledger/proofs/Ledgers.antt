@@ -76,8 +76,8 @@ module _ (book : Book) (index : List ℕ) (lines : List Line) (ledger : Ledger b
         rw (get_or-set_other index f g (suc (length lines)) 0 d)
         (⊎_elim (ledger.only g m b) (λ last. absurd (d (fact_injective g f (cc)))) (says_cases book lines l m (fact g) s))
 
-    pub ledger-snoc : RightLine book lines l → Ledger book index' lines'
-    ledger-snoc r = record {
+    pub ledger_snoc : RightLine book lines l → Ledger book index' lines'
+    ledger_snoc r = record {
       size = length-set index f (suc (length lines)) ∙ ledger.size;
       right = right_snoc book lines l ledger.right r;
       there = λ g. there' g (ℕ_discrete g f);

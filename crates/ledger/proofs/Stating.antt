@@ -20,7 +20,7 @@ use Rattle.rt0.specs.Sizes.{slip_lines}
 use Rattle.rt0.proofs.Items.{item_last}
 use Rattle.rt0.proofs.Least.{valid_head}
 use Rattle.rt0.proofs.SlipBytes.{length_lines_of}
-use Rattle.rt0.proofs.Bounds.{slip-most}
+use Rattle.rt0.proofs.Bounds.{slip_most}
 use Rattle.records.specs.declared.form.Record.{Record}
 use Rattle.bundle.specs.Layout.{records_of}
 use Rattle.bundle.specs.Access.{record_of}
@@ -31,7 +31,7 @@ use Rattle.words.specs.Give.{give_of, head_place, use_record}
 use Rattle.words.specs.Step.{head_in, step_of, step_gives}
 use Rattle.words.proofs.Stepped.{step_place, step_gives_lem}
 use Rattle.words.proofs.Wider.{role_wider, valid_wider}
-use Rattle.words.proofs.Given.{place_valid, head_valid as place-of-head, give-valid}
+use Rattle.words.proofs.Given.{place_valid, head_valid as place_of_head, give_valid}
 use Rattle.tables.proofs.Held.{HeldRecord, held_entities, held_valid, held_record, held_place}
 use Rattle.ledger.specs.declared.Given.{Given}
 use Rattle.premises.specs.declared.premise.Premises.{Premises}
@@ -39,11 +39,11 @@ use Rattle.premises.specs.Fact.{fact_number, HasLine, Backed}
 use Rattle.premises.specs.Line.{line_by, with_line, WroteLine}
 use Rattle.premises.specs.Premise.{PremisesFor, premises_by}
 use Rattle.premises.proofs.LineBytes.{wrote_line}
-use Rattle.premises.proofs.Premises.{premises-found}
+use Rattle.premises.proofs.Premises.{premises_found}
 use Rattle.ledger.specs.Ledger.{Ledger, Extended}
 use Rattle.ledger.specs.Writing.{Writing, IsRecord, HasSteps, IsGiven, AtMostOneMore}
 use Rattle.premises.proofs.Facts.{number_member, number_within, number_fact}
-use Rattle.ledger.proofs.Ledgers.{ledger-snoc, ledger_once}
+use Rattle.ledger.proofs.Ledgers.{ledger_snoc, ledger_once}
 use Rattle.ledger.proofs.Following.{premises_follow}
 use Rattle.ledger.proofs.Steps.{OneMore, one_at_most, bit_one}
 
@@ -102,7 +102,7 @@ module _ {cs : List Credential} {book : Book} {E : ℕ} {ws index slip : List �
   says_head = rw x.numbered
 
   longer : Ledger book (set index number (suc (length lines))) (lines ++ (next ∷ []))
-  longer = ledger-snoc book index lines x.ledger number next inside x.new
+  longer = ledger_snoc book index lines x.ledger number next inside x.new
       (says_head ∙ rw (number_fact (head K) D head_valid x.member)) right_line
 
   slip_longer : SlipFor book (head K) D (lines ++ (next ∷ []))
@@ -113,7 +113,7 @@ module _ {cs : List Credential} {book : Book} {E : ℕ} {ws index slip : List �
   room_there : n < slip_lines
   room_there =
       let once = ledger_once E width x.entities (omega arith) cs x.all_valid book x.names.only (set index number (suc (length lines))) _ longer in
-      let most = slip-most E width x.entities cs x.all_valid book x.names x.few (lines ++ (next ∷ [])) (head K) D slip_longer once in
+      let most = slip_most E width x.entities cs x.all_valid book x.names x.few (lines ++ (next ∷ [])) (head K) D slip_longer once in
       omega (arith, length-append lines (next ∷ []), length_lines_of slip n)
 
   extended_line : {slip' : List ℕ} → WroteLine slip n next slip' → Extended book index slip n (set index number (n + 1)) slip' (n + 1)
@@ -164,15 +164,15 @@ module _ {bytes ws index slip : List ℕ} {n : ℕ} {g : Given} (w : Writing byt
     abbrev ps : Premises
     ps = premises_by ws index (record_of bytes g.number) D
 
-    fact-here : g.first + (D - 1) ≡ fact_number (head this.credential) D
-    fact-here =
+    fact_here : g.first + (D - 1) ≡ fact_number (head this.credential) D
+    fact_here =
         let K = this.credential in
         let wide = role_wider entities_most (le_refl width) (head K) (valid_head g.entities width K this.valid) in
-        let place = place-of-head entities_most (record_of bytes g.number) K this.read this.valid ∙ sym (place_valid (head K) wide) in
+        let place = place_of_head entities_most (record_of bytes g.number) K this.read this.valid ∙ sym (place_valid (head K) wide) in
         ap (λ (f : ℕ). f + (D - 1)) i.first ∙ ap (λ (p : ℕ). most_entities * p + (D - 1)) place ∙ sym (number_member (head K) D member)
 
-    this-line : NextLine (held bytes) (book_in bytes) g.entities ws index slip n g.number this.credential D ps.first ps.second ps.third
-    this-line = record {
+    this_line : NextLine (held bytes) (book_in bytes) g.entities ws index slip n g.number this.credential D ps.first ps.second ps.third
+    this_line = record {
       entities = entities_most;
       all_valid = held_valid bytes w.accepts;
       most = records_of bytes;
@@ -182,18 +182,18 @@ module _ {bytes ws index slip : List ℕ} {n : ℕ} {g : Given} (w : Writing byt
       backed = w.backed;
       numbered = this.numbered;
       member = member;
-      given = rw (i.word, give-valid entities_most ws (record_of bytes g.number) this.credential this.read this.valid) at given;
-      new = rw fact-here at new;
-      premises = rw this.read at (premises-found g.entities entities_most ws D index member (record_of bytes g.number) (rw i.word at given));
+      given = rw (i.word, give_valid entities_most ws (record_of bytes g.number) this.credential this.read this.valid) at given;
+      new = rw fact_here at new;
+      premises = rw this.read at (premises_found g.entities entities_most ws D index member (record_of bytes g.number) (rw i.word at given));
     }
 
     room : n < slip_lines
-    room = room_there this-line
+    room = room_there this_line
 
     one_more : {slip' : List ℕ} → slip' ≡ with_line slip n (line D g.number ps.first ps.second ps.third)
         → OneMore bytes index slip n (g.first + (D - 1)) (set index (g.first + (D - 1)) (n + 1)) slip' (n + 1)
     one_more e = record {
-      extended = rw fact-here (extended_line this-line (wrote_line (omega (arith, room, w.room)) e));
+      extended = rw fact_here (extended_line this_line (wrote_line (omega (arith, room, w.room)) e));
       lines = refl;
       entry = refl;
     }
@@ -203,12 +203,12 @@ module _ {bytes ws index slip : List ℕ} {n : ℕ} {g : Given} (w : Writing byt
     same : x + 1 - 1 ≡ x
     same = omega arith
 
-    pub line-room : n < slip_lines
-    line-room = room {D = x + 1} (omega arith) (rw same (bit_one g.word x given)) (rw same new)
+    pub line_room : n < slip_lines
+    line_room = room {D = x + 1} (omega arith) (rw same (bit_one g.word x given)) (rw same new)
 
-    pub line-more : {slip' : List ℕ} {k : Record} → k ≡ record_of bytes g.number
+    pub line_more : {slip' : List ℕ} {k : Record} → k ≡ record_of bytes g.number
         → slip' ≡ with_line slip n (line_by ws index k g.number (x + 1))
         → AtMostOneMore bytes index slip n (g.first + x) (bit g.word x) (set index (g.first + x) (n + 1)) slip' (n + 1)
-    line-more e f =
+    line_more e f =
         one_at_most (bit g.word x) (omega (arith, w.ledger.size, i.inside))
         (rw same at (one_more {D = x + 1} (omega arith) (rw same (bit_one g.word x given)) (rw same new) (rw e at f)))

@@ -21,7 +21,7 @@ use Rattle.letters.specs.Promise.{Stored, Reads, Writes}
 use Rattle.letters.proofs.Reading.{range_tells, in_range}
 use Rattle.letters.proofs.Clear.{ReadClear, clear_read, WriteClear, clear_write}
 use Rattle.letters.proofs.Texts.{text_count, text_one, front_right, records_size}
-use Rattle.letters.proofs.Listed.{count-back, credentials-back, records_right, valid-listed, records-listed}
+use Rattle.letters.proofs.Listed.{count_back, credentials_back, records_right, valid_listed, records_listed}
 use Rattle.letters.proofs.Kept.{read_numbers, write_numbers}
 
 -- Reading the text of credentials.
@@ -51,12 +51,12 @@ module _ (E R : ℕ) (range : out_of_range E R ≡ false) (cs : List Credential)
   -- Writing their records gives their text.
   write_clear : (size : ℕ) → length cs ≤ 240 → length (text_of cs) ≤ size → Clear (write_rows E R (records_of cs) size)
   write_clear size few room =
-      let text = ap (λ (ds : List Credential). length (text_of ds)) (credentials-back E R cs v) in (
+      let text = ap (λ (ds : List Credential). length (text_of ds)) (credentials_back E R cs v) in (
         λ (_, (_, cut)). cut (omega (arith, records_size E R cs v)),
         (
           λ (_, (_, out)). clash_flag ((range_tells E R).1 out) range,
           clear_both (list_rows E R (records_of cs)) (text_rows (records_of cs) size) (list_clear E R (records_of cs) (records_right E R cs v))
-              (λ (_, (_, many)). omega (arith, count-back E R cs v), (λ (_, (_, short)). omega (arith, text), tt)),
+              (λ (_, (_, many)). omega (arith, count_back E R cs v), (λ (_, (_, short)). omega (arith, text), tt)),
         ),
       )
 
@@ -65,7 +65,7 @@ module _ (E R : ℕ) (range : out_of_range E R ≡ false) (cs : List Credential)
   writes_text before after r few room (refused d _) =
       absurd (due_clear (write_rows E R (records_of cs) (length before)) _ _ (write_clear (length before) few room) d)
   writes_text before after r few room (passed _ _ _ stored) =
-      subst (λ (ds : List Credential). Stored (text_of ds) before r after) (credentials-back E R cs v) stored
+      subst (λ (ds : List Credential). Stored (text_of ds) before r after) (credentials_back E R cs v) stored
 
 -- what stands at the front of a buffer
 front_is : (bytes before after : List ℕ) (n : ℕ) → Stored bytes before (Length n) after → take n after ≡ bytes
@@ -81,8 +81,8 @@ written_read E R list before after n (refused d _) room stored r enough h =
 written_read E R list before after n (passed _ _ clear said) room stored r enough h =
     let ready : WriteClear E R list (length before) = clear_write E R list (length before) clear in
     let cs = credentials_in list in
-    let same = records-listed E R list ready.right ready.whole in
-    let v = valid-listed E R list ready.right in
+    let same = records_listed E R list ready.right ready.whole in
+    let v = valid_listed E R list ready.right in
     let size : length list ≡ 12 * length cs = ap length (sym same) ∙ records_size E R cs v in
     let read = subst (λ (t : List ℕ). Reads E R t room r stored) (front_is (text_of cs) before after n said) h in
     subst (λ (bytes : List ℕ). Stored bytes room r stored) same

@@ -17,7 +17,7 @@ use Rattle.letters.specs.Promise.{Reads, Writes}
 use Rattle.letters.proofs.Clear.{WriteClear, clear_write}
 use Rattle.letters.proofs.Cut.{line_some}
 use Rattle.letters.proofs.Texts.{valid_none, records_size}
-use Rattle.letters.proofs.Listed.{records-listed}
+use Rattle.letters.proofs.Listed.{records_listed}
 use Rattle.letters.proofs.Kept.{read_numbers, write_numbers}
 use Rattle.letters.proofs.Back.{reads_records, writes_text}
 
@@ -64,4 +64,4 @@ module _ (E R : ℕ) (before after : List ℕ) where
   none_written list (passed _ _ clear (e, _)) =
       let ready : WriteClear E R list (length before) = clear_write E R list (length before) clear in
       let size : 0 ≡ length (text_of (credentials_in list)) = cc in
-      sym (records-listed E R list ready.right ready.whole) ∙ ap records_of (no_credentials (credentials_in list) (sym size)) ∙ no_records
+      sym (records_listed E R list ready.right ready.whole) ∙ ap records_of (no_credentials (credentials_in list) (sym size)) ∙ no_records

@@ -49,18 +49,18 @@ module _ (E R : ℕ) where
 
   -- the credentials of the records of credentials are these
   module _ (cs : List Credential) (v : AllValid E R cs) where
-    pub count-back : whole_records (records_of cs) ≡ length cs
-    count-back = omega (arith, records_size E R cs v)
+    pub count_back : whole_records (records_of cs) ≡ length cs
+    count_back = omega (arith, records_size E R cs v)
 
-    pub credentials-back : credentials_in (records_of cs) ≡ cs
-    credentials-back =
-        ap (tabulate (λ n. credential_in (listed (records_of cs) n))) count-back
+    pub credentials_back : credentials_in (records_of cs) ≡ cs
+    credentials_back =
+        ap (tabulate (λ n. credential_in (listed (records_of cs) n))) count_back
         ∙ sym (is_tabulate (λ n. credential_in (listed (records_of cs) n)) none cs (length cs) refl
         (λ i l. sym (ap credential_in (listed_at cs v i l) ∙ encoded_credential E R (get_or cs i none) (valid_at cs v i l))))
 
     pub records_right : Missed (wrong_listed E R (records_of cs)) (whole_records (records_of cs))
     records_right i l =
-        let below : i < length cs = omega (arith, count-back) in
+        let below : i < length cs = omega (arith, count_back) in
         ap (record_wrong E R) (listed_at cs v i below)
         ∙ (right_record E R (bytes_of (get_or cs i none))).1 (encoded_right E R (get_or cs i none) (valid_at cs v i below))
 
@@ -74,19 +74,19 @@ module _ (E R : ℕ) where
     valid_to zero l = valid_none E R
     valid_to (suc n) l = valid_last E R (tabulate nth n) (nth n) (valid_to n (omega arith)) (valid_record E R (listed list n) (right n (omega arith)))
 
-    records-to : (n : ℕ) → n ≤ whole_records list → records_of (tabulate nth n) ≡ take (12 * n) list
+    records_to : (n : ℕ) → n ≤ whole_records list → records_of (tabulate nth n) ≡ take (12 * n) list
     unfolding tabulate records_of
-    records-to zero l = refl
-    records-to (suc n) l =
+    records_to zero l = refl
+    records_to (suc n) l =
         let size : length (listed list n) ≡ 12 = length-take-le 12 (drop (12 * n) list) (omega (arith, length-drop (12 * n) list)) in
         let own : bytes_of (nth n) ≡ listed list n = own_record E R (listed list n) (size, right n (omega arith)) in
         let more : 12 * suc n ≡ 12 * n + 12 = omega arith in
         records_last (tabulate nth n) (nth n)
-        ∙ rw (records-to n (omega arith), own)
+        ∙ rw (records_to n (omega arith), own)
         (sym (take-add (12 * n) 12 list) ∙ ap (λ (k : ℕ). take k list) (sym more))
 
-    pub valid-listed : AllValid E R (credentials_in list)
-    valid-listed = valid_to (whole_records list) (omega arith)
+    pub valid_listed : AllValid E R (credentials_in list)
+    valid_listed = valid_to (whole_records list) (omega arith)
 
-    pub records-listed : length list % 12 ≡ 0 → records_of (credentials_in list) ≡ list
-    records-listed whole = records-to (whole_records list) (omega arith) ∙ take_all (12 * whole_records list) list (omega arith)
+    pub records_listed : length list % 12 ≡ 0 → records_of (credentials_in list) ≡ list
+    records_listed whole = records_to (whole_records list) (omega arith) ∙ take_all (12 * whole_records list) list (omega arith)

@@ -23,7 +23,7 @@ use Rattle.letters.specs.Promise.{Reads, Writes}
 use Rattle.letters.proofs.Reading.{in_range}
 use Rattle.letters.proofs.Clear.{clear_read, WriteClear, clear_write}
 use Rattle.letters.proofs.Texts.{text_count, records_size}
-use Rattle.letters.proofs.Listed.{valid-listed}
+use Rattle.letters.proofs.Listed.{valid_listed}
 use Rattle.letters.proofs.Kept.{no_both, read_numbers, write_numbers}
 
 -- the text of valid credentials has at most 39 bytes for each, over entities and names of one digit or two
@@ -80,13 +80,13 @@ module _ (E R : ℕ) (list before after : List ℕ) where
   write_length n (refused d _) = absurd (omega (arith, due_number (write_rows E R list (length before)) (write_numbers E R list (length before)) _ _ d))
   write_length n (passed _ _ clear (said, _)) =
       let ready : WriteClear E R list (length before) = clear_write E R list (length before) clear in
-      let (few-entities, few_names) = in_range E R ready.within in
+      let (few_entities, few_names) = in_range E R ready.within in
       let size : n ≡ length (text_of (credentials_in list)) = cc in
       let count : length (credentials_in list) ≡ whole_records list = length_tabulate (λ k. credential_in (listed list k)) (whole_records list) in
       omega (
         arith,
         size,
         count,
-        text_short E R few-entities few_names (credentials_in list) (valid-listed E R list ready.right),
+        text_short E R few_entities few_names (credentials_in list) (valid_listed E R list ready.right),
         ready.few,
       )

@@ -57,8 +57,8 @@ module _ (E R : ℕ) (text : List ℕ) where
         }
 
     -- the lines passed are right
-    before-right : (j : ℕ) → j < lines → RightLine E R (line_at text j)
-    before-right j l =
+    before_right : (j : ℕ) → j < lines → RightLine E R (line_at text j)
+    before_right j l =
         subst (λ (t : List ℕ). RightLine E R (line_at t j)) (sym h.split) (front_right E R h.so_far (drop at text) h.valid j (omega (arith, h.count)))
 
     counted : line_count text ≡ lines + line_count (drop at text)
@@ -77,28 +77,28 @@ module _ (E R : ℕ) (text : List ℕ) where
       more = omega (arith, counted, ap length (next_line text at left))
 
       -- it is wrong
-      pub text-wrong : (size : ℕ) → lines < 240 → (end : ℕ) → end ≡ at + first_length (drop at text)
+      pub text_wrong : (size : ℕ) → lines < 240 → (end : ℕ) → end ≡ at + first_length (drop at text)
           → (RightLine E R (take (end - at) (drop at text)) → ⊥) → JudgedText (line_rows E R text size) E R text (Refused 14 (lines + 1))
-      text-wrong size among end e wrong =
+      text_wrong size among end e wrong =
           let long : end - at ≡ first_length (drop at text) = omega arith in
           let first : FirstWrong E R text lines =
           record {
             there = more;
             among = among;
             wrong = λ right. wrong (subst (λ (line : List ℕ). RightLine E R line) (here ∙ ap (λ (n : ℕ). take n (drop at text)) (sym long)) right);
-            before = before-right;
+            before = before_right;
           } in
           refused (inl (refl, (lines, add-one lines, first))) tt
 
       -- it follows line 240
       pub text_many : (size : ℕ) → lines ≡ 240 → JudgedText (line_rows E R text size) E R text (Refused 12 241)
       text_many size e =
-          refused (inr (λ (_, (k, _, first)). first.wrong (before-right k (omega (arith, first.among))), inl (refl, (refl, omega (arith, more))))) tt
+          refused (inr (λ (_, (k, _, first)). first.wrong (before_right k (omega (arith, first.among))), inl (refl, (refl, omega (arith, more))))) tt
 
     -- there is none
-    pub text-whole : (size : ℕ) → length text ≤ at → lines ≤ 240 → (r : Wrote) → Says (room_rows lines size) r (12 * lines)
+    pub text_whole : (size : ℕ) → length text ≤ at → lines ≤ 240 → (r : Wrote) → Says (room_rows lines size) r (12 * lines)
         → JudgedText (line_rows E R text size) E R text r
-    text-whole size none few r says = by (subst (λ (n : ℕ). Says (room_rows n size) r (12 * n)) (sym same) says)
+    text_whole size none few r says = by (subst (λ (n : ℕ). Says (room_rows n size) r (12 * n)) (sym same) says)
       where
         same : line_count text ≡ lines
         same = counted ∙ ap (λ (ls : List (List ℕ)). lines + length ls) (no_line text at none) ∙ omega arith
@@ -115,14 +115,14 @@ module _ (E R : ℕ) (text : List ℕ) where
             }
 
         right : (p : ℕ) × FromOne (FirstWrong E R text) p → ⊥
-        right (_, (k, _, first)) = first.wrong (before-right k (omega (arith, first.there, same)))
+        right (_, (k, _, first)) = first.wrong (before_right k (omega (arith, first.there, same)))
 
-        not-many : (p : ℕ) × AtPlace 241 (240 < line_count text) p → ⊥
-        not-many (_, (_, l)) = omega (arith, same)
+        not_many : (p : ℕ) × AtPlace 241 (240 < line_count text) p → ⊥
+        not_many (_, (_, l)) = omega (arith, same)
 
         by : Says (room_rows (line_count text) size) r (12 * line_count text) → JudgedText (line_rows E R text size) E R text r
-        by (refused d k) = refused (inr (right, inr (not-many, d))) tt
-        by (passed z p c g) = passed z p (right, (not-many, c)) (g, letter)
+        by (refused d k) = refused (inr (right, inr (not_many, d))) tt
+        by (passed z p c g) = passed z p (right, (not_many, c)) (g, letter)
 
 -- whether there is room
 pub room_short : (lines size : ℕ) → size < 12 * lines → Says (room_rows lines size) (Refused 13 0) (12 * lines)

@@ -8,7 +8,7 @@ use mathlib.Core.List.{List, [], ◌∷◌, ◌++◌, append_assoc, append-nil}
 use mathlib.Core.Logic.{◌⊎◌, inl, inr}
 use lib.ListN.{length, get_or, drop, length-append}
 use lib.Seq.{drop_at}
-use Rattle.rt0.specs.Credential.{◌·◌, Credential, Valid, AllValid, ◌∈◌}
+use Rattle.rt0.specs.Credential.{Credential, Valid, AllValid, ◌∈◌}
 use Rattle.records.specs.Bytes.{bytes_of}
 use Rattle.spelling.specs.Line.{line_of, RightLine}
 use Rattle.candidates.proofs.Unique.{line_one}
@@ -60,7 +60,7 @@ unfolding lines_of
 text_count cs = ap line_count (sym (append-nil (text_of cs))) ∙ front_count cs [] ∙ omega arith
 
 -- two lists of valid credentials with the same text are equal
-module _ (E R : ℕ) (few-entities : E < 100) (few_names : R < 100) where
+module _ (E R : ℕ) (few_entities : E < 100) (few_names : R < 100) where
   pub text_one : (cs ds : List Credential) → AllValid E R cs → AllValid E R ds → text_of cs ≡ text_of ds → cs ≡ ds
   unfolding text_of
   text_one [] [] v w e = refl
@@ -73,7 +73,7 @@ module _ (E R : ℕ) (few-entities : E < 100) (few_names : R < 100) where
       let long : length (line_of d) ≡ length (line_of c) = ap length (sym same) in
       let rest : text_of cs ≡ text_of ds =
       sym (drop_at (line_of c) (text_of cs) (length (line_of c)) refl) ∙ ap (drop (length (line_of c))) e ∙ drop_at (line_of d) (text_of ds) (length (line_of c)) long in
-      let first : c ≡ d = line_one E R few-entities few_names c d (v c (Memᴰ.head refl)) (w d (Memᴰ.head refl)) same in
+      let first : c ≡ d = line_one E R few_entities few_names c d (v c (Memᴰ.head refl)) (w d (Memᴰ.head refl)) same in
       let others : cs ≡ ds = text_one cs ds (λ k m. v k (Memᴰ.tail m)) (λ k m. w k (Memᴰ.tail m)) rest in
       cc
 

@@ -40,16 +40,16 @@ module _ (list : List ℕ) (size : ℕ) where
     pub text_short : size < n → Says (text_rows list size) (Refused 13 0) long
     text_short l = refused (inr (λ (_, (_, many)). omega arith, inl (refl, (refl, omega (arith, counted))))) tt
 
-    pub text-room : n ≤ size → Says (text_rows list size) (Length n) long
-    text-room l = passed refl refl (λ (_, (_, many)). omega arith, (λ (_, (_, no_room)). omega (arith, counted), tt)) (ap Length counted)
+    pub text_room : n ≤ size → Says (text_rows list size) (Length n) long
+    text_room l = passed refl refl (λ (_, (_, many)). omega arith, (λ (_, (_, no_room)). omega (arith, counted), tt)) (ap Length counted)
 
 module _ (E R : ℕ) (list : List ℕ) (size : ℕ) where
   pub records_cut : (length list % 12 ≡ 0 → ⊥) → Says (write_rows E R list size) (Refused 1 0) (length (text_of (credentials_in list)))
   records_cut cut = refused (inl (refl, (refl, cut))) tt
 
   module _ (whole : length list % 12 ≡ 0) where
-    pub records-range : out_of_range E R ≡ true → Says (write_rows E R list size) (Refused 3 0) (length (text_of (credentials_in list)))
-    records-range h = refused (inr (λ (_, (_, cut)). cut whole, inl (refl, (refl, (range_tells E R).0 h)))) tt
+    pub records_range : out_of_range E R ≡ true → Says (write_rows E R list size) (Refused 3 0) (length (text_of (credentials_in list)))
+    records_range h = refused (inr (λ (_, (_, cut)). cut whole, inl (refl, (refl, (range_tells E R).0 h)))) tt
 
     module _ (range : out_of_range E R ≡ false) where
       behind : (r : Wrote) → Says (list_rows E R list ++ text_rows list size) r (length (text_of (credentials_in list)))
@@ -57,17 +57,17 @@ module _ (E R : ℕ) (list : List ℕ) (size : ℕ) where
       behind r h =
           judged_more _ _ (λ (_, (_, cut)). cut whole) (judged_more _ _ (λ (_, (_, out)). clash_flag ((range_tells E R).1 out) range) h)
 
-      pub records-flaw : (flaw : Flaw) → FlawOf E R list flaw → (flaw.number ≡ 0 → ⊥)
+      pub records_flaw : (flaw : Flaw) → FlawOf E R list flaw → (flaw.number ≡ 0 → ⊥)
           → Says (write_rows E R list size) (Refused flaw.number flaw.place) (length (text_of (credentials_in list)))
-      records-flaw flaw h some =
+      records_flaw flaw h some =
           let (d, _) = judged_refused (list_rows E R list) (list_places E R list) (list_numbers E R list) h (omega arith) in
           behind (Refused flaw.number flaw.place)
           (refused (due_first (list_rows E R list) (text_rows list size) flaw.number flaw.place d) tt)
 
       -- no record is wrong
       module _ (flaw : Flaw) (h : FlawOf E R list flaw) (none : flaw.number ≡ 0) where
-        pub records-short : ShortLines list
-        records-short n l =
+        pub records_short : ShortLines list
+        records_short n l =
             let (a, b) = in_range E R range in
             let right = clear_list E R list (list_none E R list flaw h none) n l in
             omega (arith, line_short E R a b (credential_in (listed list n)) (valid_record E R (listed list n) right))

@@ -11,7 +11,7 @@ use Rattle.lines.specs.Right.{Mark, SURE, MAYBE, count}
 use Rattle.lines.specs.Text.{person_text, role_text, mark_text, lines_text, end_text, list_text}
 use Rattle.lines.specs.Sizes.{mark_bytes, end_line, member_line, role_line}
 use Rattle.lines.specs.Numbered.{line_for, numbered, role_at}
-use Rattle.lines.proofs.Growing.{count_both, lines-both}
+use Rattle.lines.proofs.Growing.{count_both, lines_both}
 
 mark_few : (m : Mark) → length (mark_text m) ≤ mark_bytes
 mark_few SURE = omega arith
@@ -31,12 +31,12 @@ module _ {K : Type 0} where
 
   module _ (key : ℕ → K) (sure possible : ℕ → Bool) where
     -- no more lines than keys
-    pub count-few : (m : Mark) (n : ℕ) → count m (numbered key sure possible n) ≤ n
+    pub count_few : (m : Mark) (n : ℕ) → count m (numbered key sure possible n) ≤ n
     unfolding numbered count
-    count-few m zero = omega arith
-    count-few m (suc n) =
+    count_few m zero = omega arith
+    count_few m (suc n) =
         rw (count_both m (numbered key sure possible n) (line_for (key n) (sure n) (possible n)))
-        (omega (arith, count-few m n, one_few m (key n) (sure n) (possible n)))
+        (omega (arith, count_few m n, one_few m (key n) (sure n) (possible n)))
 
     module _ (key_text : K → List ℕ) (most : ℕ) where
       line_few : (k : K) (s p : Bool) → length (key_text k) + mark_bytes ≤ most → length (lines_text key_text (line_for k s p)) ≤ most
@@ -52,7 +52,7 @@ module _ {K : Type 0} where
       lines_few (suc n) h =
           let before : length (lines_text key_text (numbered key sure possible n)) ≤ n * most = lines_few n (λ i l. h i (omega arith)) in
           let last = line_few (key n) (sure n) (possible n) (h n (omega arith)) in
-          rw (lines-both key_text (numbered key sure possible n) (line_for (key n) (sure n) (possible n)), length-append, suc-mul) (omega (arith, before, last))
+          rw (lines_both key_text (numbered key sure possible n) (line_for (key n) (sure n) (possible n)), length-append, suc-mul) (omega (arith, before, last))
 
       pub text_few : (n : ℕ) → n < 2 ^ 16 → ((i : ℕ) → i < n → length (key_text (key i)) + mark_bytes ≤ most)
           → length (list_text key_text (numbered key sure possible n)) ≤ n * most + end_line
@@ -62,7 +62,7 @@ module _ {K : Type 0} where
           rw length-append (omega (arith, lines_few n h, ends))
         where
           lower : (m : Mark) → count m (numbered key sure possible n) < 2 ^ 16
-          lower m = omega (arith, count-few m n)
+          lower m = omega (arith, count_few m n)
 
 -- the longest lines
 pub person_few : (i : ℕ) → i < most_entities → length (person_text (suc i)) + mark_bytes ≤ member_line

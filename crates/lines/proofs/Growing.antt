@@ -37,10 +37,10 @@ module _ {K : Type 0} where
   count_both m (x ∷ xs) ys = rw (count_both m xs ys) (sym (add_assoc (one_if m x.mark) (count m xs) (count m ys)))
 
   module _ (key_text : K → List ℕ) where
-    pub lines-both : (xs ys : List (Line K)) → lines_text key_text (xs ++ ys) ≡ lines_text key_text xs ++ lines_text key_text ys
+    pub lines_both : (xs ys : List (Line K)) → lines_text key_text (xs ++ ys) ≡ lines_text key_text xs ++ lines_text key_text ys
     unfolding lines_text
-    lines-both [] ys = refl
-    lines-both (x ∷ xs) ys = rw (lines-both xs ys) (sym (append_assoc (key_text x.key ++ mark_text x.mark) (lines_text key_text xs) (lines_text key_text ys)))
+    lines_both [] ys = refl
+    lines_both (x ∷ xs) ys = rw (lines_both xs ys) (sym (append_assoc (key_text x.key ++ mark_text x.mark) (lines_text key_text xs) (lines_text key_text ys)))
 
     -- no line yet
     pub passed_none : (before : List ℕ) (t : Tally) → t.next ≡ 0 → t.sure ≡ 0 → t.maybe ≡ 0 → Passed key_text [] before before t
@@ -52,9 +52,9 @@ module _ {K : Type 0} where
     unfolding lines_text
     one_line k m = append-nil (key_text k ++ mark_text m)
 
-    one-count : (m : Mark) (k : K) (n : Mark) → count m (line k n ∷ []) ≡ one_if m n
+    one_count : (m : Mark) (k : K) (n : Mark) → count m (line k n ∷ []) ≡ one_if m n
     unfolding count
-    one-count m k n = add-zero (one_if m n)
+    one_count m k n = add-zero (one_if m n)
 
     -- what stands for a key that is sure or possible
     line_there : (k : K) (sure possible : Bool) → (sure || possible) ≡ true → line_for k sure possible ≡ line k (mark_if sure) ∷ []
@@ -64,13 +64,13 @@ module _ {K : Type 0} where
 
     module _ (k : K) (sure possible : Bool) {before now keyed after : List ℕ} (ls : List (Line K)) {t u : Tally} {at : ℕ} where
       -- a key is written, and its mark
-      pub passed-line : (sure || possible) ≡ true → Wrote now t.next (key_text k) keyed at → Marked sure keyed at after t u
+      pub passed_line : (sure || possible) ≡ true → Wrote now t.next (key_text k) keyed at → Marked sure keyed at after t u
           → Passed key_text ls before now t → Passed key_text (ls ++ line_for k sure possible) before after u
-      passed-line there w m p =
+      passed_line there w m p =
           rw (line_there k sure possible there) (record {
-            wrote = rw (lines-both ls (line k (mark_if sure) ∷ []), one_line k (mark_if sure)) (wrote_more p.wrote (wrote_more w m.wrote));
-            sure = m.sure_count ∙ rw (p.sure, count_both SURE ls (line k (mark_if sure) ∷ []), one-count SURE k (mark_if sure));
-            maybe = m.maybe_count ∙ rw (p.maybe, count_both MAYBE ls (line k (mark_if sure) ∷ []), one-count MAYBE k (mark_if sure));
+            wrote = rw (lines_both ls (line k (mark_if sure) ∷ []), one_line k (mark_if sure)) (wrote_more p.wrote (wrote_more w m.wrote));
+            sure = m.sure_count ∙ rw (p.sure, count_both SURE ls (line k (mark_if sure) ∷ []), one_count SURE k (mark_if sure));
+            maybe = m.maybe_count ∙ rw (p.maybe, count_both MAYBE ls (line k (mark_if sure) ∷ []), one_count MAYBE k (mark_if sure));
           })
 
     -- a key that is neither has no line
@@ -85,7 +85,7 @@ module _ {K : Type 0} where
     passed_length p = wrote_length p.wrote
 
     -- the last line behind the others
-    pub passed-end : {before now after : List ℕ} (ls : List (Line K)) {t : Tally} {r : ℕ} → Passed key_text ls before now t
+    pub passed_end : {before now after : List ℕ} (ls : List (Line K)) {t : Tally} {r : ℕ} → Passed key_text ls before now t
         → Wrote now t.next (end_text t.sure t.maybe) after r → Wrote before 0 (list_text key_text ls) after r
     unfolding list_text
-    passed-end ls p w = wrote_more p.wrote (rw (p.sure, p.maybe) at w)
+    passed_end ls p w = wrote_more p.wrote (rw (p.sure, p.maybe) at w)

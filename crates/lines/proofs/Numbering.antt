@@ -5,7 +5,7 @@ use native.Mathlib.Decide.{dec_lt}
 use native.Mathlib.Omega.{arith}
 use mathlib.Core.Path.{◌≡◌, refl}
 use mathlib.Core.Bool.{Bool, true, false}
-use mathlib.Core.Logic.{◌⊎◌, ◌↔◌, ⊎_elim}
+use mathlib.Core.Logic.{◌↔◌, ⊎_elim}
 use mathlib.Core.List.Memᴰ
 use mathlib.Core.List.{List, [], ◌∷◌, ◌++◌}
 use Rattle.rt0.specs.Credential.{◌∈◌}
@@ -75,11 +75,11 @@ module _ {K : Type 0} (key : ℕ → K) (sure possible : ℕ → Bool) where
           Memᴰ.append_right (numbered key sure possible n) (rw last at j)
 
   module _ (Before : K → K → Type 0) (rising : (i j : ℕ) → i < j → Before (key i) (key j)) where
-    numbered-rises : (n : ℕ) → Rises Before (numbered key sure possible n)
+    numbered_rises : (n : ℕ) → Rises Before (numbered key sure possible n)
     unfolding numbered Rises
-    numbered-rises zero = tt
-    numbered-rises (suc n) =
-        rises_both Before (numbered key sure possible n) (line_for (key n) (sure n) (possible n)) (numbered-rises n)
+    numbered_rises zero = tt
+    numbered_rises (suc n) =
+        rises_both Before (numbered key sure possible n) (line_for (key n) (sure n) (possible n)) (numbered_rises n)
         (for_rises Before (key n) (sure n) (possible n))
         (λ x y i j.
         let (k, b, m) = numbered_has n x i in
@@ -89,32 +89,32 @@ module _ {K : Type 0} (key : ℕ → K) (sure possible : ℕ → Bool) where
 
     module _ (Sure Possible : K → Type 0) (n : ℕ) (weaker : (k : K) → Sure k → Possible k)
         (found : (k : K) → Possible k → (i : ℕ) × (i < n) × (k ≡ key i))
-        (sure-told : (i : ℕ) → i < n → (sure i ≡ true) ↔ Sure (key i)) (possible_told : (i : ℕ) → i < n → (possible i ≡ true) ↔ Possible (key i)) where
-      marked-right : (i : ℕ) → i < n → (m : Mark) → MarkedBy (sure i) (possible i) m ↔ RightMark (Sure (key i)) (Possible (key i)) m
-      marked-right i b SURE = sure-told i b
-      marked-right i b MAYBE = (
-        λ h. ((possible_told i b).0 h.1, λ s. clash_flag ((sure-told i b).1 s) h.0),
-        λ h. (not_true_false (sure i) (λ t. h.1 ((sure-told i b).0 t)), (possible_told i b).1 h.0),
+        (sure_told : (i : ℕ) → i < n → (sure i ≡ true) ↔ Sure (key i)) (possible_told : (i : ℕ) → i < n → (possible i ≡ true) ↔ Possible (key i)) where
+      marked_right : (i : ℕ) → i < n → (m : Mark) → MarkedBy (sure i) (possible i) m ↔ RightMark (Sure (key i)) (Possible (key i)) m
+      marked_right i b SURE = sure_told i b
+      marked_right i b MAYBE = (
+        λ h. ((possible_told i b).0 h.1, λ s. clash_flag ((sure_told i b).1 s) h.0),
+        λ h. (not_true_false (sure i) (λ t. h.1 ((sure_told i b).0 t)), (possible_told i b).1 h.0),
       )
 
-      mark-possible : (k : K) (m : Mark) → RightMark (Sure k) (Possible k) m → Possible k
-      mark-possible k SURE h = weaker k h
-      mark-possible k MAYBE h = h.0
+      mark_possible : (k : K) (m : Mark) → RightMark (Sure k) (Possible k) m → Possible k
+      mark_possible k SURE h = weaker k h
+      mark_possible k MAYBE h = h.0
 
       listed : (k : K) (m : Mark) → line k m ∈ numbered key sure possible n → RightMark (Sure k) (Possible k) m
       listed k m j =
           let (i, b, l) = numbered_has n (line k m) j in
           let (e, marked) = for_has _ _ _ (line k m) l in
-          rw e ((marked-right i b m).0 marked)
+          rw e ((marked_right i b m).0 marked)
 
       lists : (k : K) (m : Mark) → RightMark (Sure k) (Possible k) m → line k m ∈ numbered key sure possible n
       lists k m h =
-          let (i, b, e) = found k (mark-possible k m h) in
-          rw e (numbered_holds n i (line (key i) m) b (for_holds (key i) _ _ m ((marked-right i b m).1 (rw e at h))))
+          let (i, b, e) = found k (mark_possible k m h) in
+          rw e (numbered_holds n i (line (key i) m) b (for_holds (key i) _ _ m ((marked_right i b m).1 (rw e at h))))
 
-      pub numbered-right : RightList Before Sure Possible (numbered key sure possible n)
-      numbered-right = record { rises = numbered-rises n; lines = λ k m. (listed k m, lists k m) }
+      pub numbered_right : RightList Before Sure Possible (numbered key sure possible n)
+      numbered_right = record { rises = numbered_rises n; lines = λ k m. (listed k m, lists k m) }
 
       -- and it is the only one
-      pub numbered-only : OneWay Before → (others : List (Line K)) → RightList Before Sure Possible others → others ≡ numbered key sure possible n
-      numbered-only one_way others r = right_once Before one_way others (numbered key sure possible n) r numbered-right
+      pub numbered_only : OneWay Before → (others : List (Line K)) → RightList Before Sure Possible others → others ≡ numbered key sure possible n
+      numbered_only one_way others r = right_once Before one_way others (numbered key sure possible n) r numbered_right

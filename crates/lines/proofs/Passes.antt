@@ -1,6 +1,6 @@
 -- One pass over the tables: with one person more, or one word more, the lines passed go on; their counts stay small; and where all are passed
 -- the whole text is written.
-use Prim.Native.Nat.{ℕ, suc, ◌+◌, ◌-◌, ◌/◌, ◌%◌, ◌<◌}
+use Prim.Native.Nat.{ℕ, suc, ◌+◌, ◌/◌, ◌%◌, ◌<◌}
 use native.Mathlib.Omega.{arith}
 use native.Mathlib.Numerals.{add-one}
 use mathlib.Core.Path.{◌≡◌, ap₂, subst}
@@ -15,8 +15,8 @@ use Rattle.lines.specs.Right.{SURE, MAYBE}
 use Rattle.lines.specs.Text.{person_text, role_text, end_text, list_text}
 use Rattle.lines.specs.Numbered.{numbered, role_at, is_one, members_up_to, roles_up_to}
 use Rattle.lines.specs.Passing.{Passed, PassesMember, PassesRole}
-use Rattle.lines.proofs.Growing.{numbered_more, passed_none, passed-end}
-use Rattle.lines.proofs.Fits.{count-few}
+use Rattle.lines.proofs.Growing.{numbered_more, passed_none, passed_end}
+use Rattle.lines.proofs.Fits.{count_few}
 
 -- both counts have room for one more
 abbrev pub Few : Tally → Type 0
@@ -25,13 +25,13 @@ Few t = (t.sure < 65535) × (t.maybe < 65535)
 module _ {K : Type 0} (key_text : K → List ℕ) (key : ℕ → K) (sure possible : ℕ → Bool) {before now : List ℕ} {t : Tally} where
   few : (i : ℕ) → i < 65535 → Passed key_text (numbered key sure possible i) before now t → Few t
   few i l p =
-      (omega (arith, p.sure, count-few key sure possible SURE i), omega (arith, p.maybe, count-few key sure possible MAYBE i))
+      (omega (arith, p.sure, count_few key sure possible SURE i), omega (arith, p.maybe, count_few key sure possible MAYBE i))
 
   -- all keys are passed
   written : {after : List ℕ} {r : ℕ} (n i : ℕ) → i ≡ n → Passed key_text (numbered key sure possible i) before now t
       → Wrote now t.next (end_text t.sure t.maybe) after r → Wrote before 0 (list_text key_text (numbered key sure possible n)) after r
   written {after} {r} n i e p w =
-      subst (λ (m : ℕ). Wrote before 0 (list_text key_text (numbered key sure possible m)) after r) e (passed-end key_text (numbered key sure possible i) p w)
+      subst (λ (m : ℕ). Wrote before 0 (list_text key_text (numbered key sure possible m)) after r) e (passed_end key_text (numbered key sure possible i) p w)
 
 -- the members in two words
 pub members_start : (w v : ℕ) {before : List ℕ} {t : Tally} → t.next ≡ 0 → t.sure ≡ 0 → t.maybe ≡ 0 → Passed person_text (members_up_to w v 0) before before t

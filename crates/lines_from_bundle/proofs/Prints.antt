@@ -49,8 +49,8 @@ module _ (bytes : List ℕ) (s : Sizes) (h : Accepts bytes s) where
 
   -- the records were gathered
   module _ (before records : List ℕ) (n : ℕ) (room : 2880 ≤ length before) (w : WroteFrom before 0 (gathered bytes s.records) records n) where
-    list-is : gathered bytes s.records ≡ records_of (held bytes)
-    list-is = ap (gathered bytes) (accepted_contents bytes s h).records ∙ gathered_is bytes s h
+    list_is : gathered bytes s.records ≡ records_of (held bytes)
+    list_is = ap (gathered bytes) (accepted_contents bytes s h).records ∙ gathered_is bytes s h
 
     many : length (held bytes) ≡ s.records
     many = length_credentials bytes _ ∙ sym (accepted_contents bytes s h).records
@@ -58,22 +58,22 @@ module _ (bytes : List ℕ) (s : Sizes) (h : Accepts bytes s) where
     size : length (gathered bytes s.records) ≤ 2880
     size =
         let c = accepted_contents bytes s h in
-        omega (arith, ap length list-is, records_size s.entities s.names (held bytes) c.valid, many, c.records_most)
+        omega (arith, ap length list_is, records_size s.entities s.names (held bytes) c.valid, many, c.records_most)
 
-    pub gathered-inside : n ≤ length records
-    gathered-inside =
+    pub gathered_inside : n ≤ length records
+    gathered_inside =
         let (e, long) = wrote_text w (omega (arith, size)) in
         rw (e, length-append) (omega arith)
 
     front : take n records ≡ records_of (held bytes)
     front =
         let (e, long) = wrote_text w (omega (arith, size)) in
-        rw (e, long) (take_at (gathered bytes s.records) _ _ refl) ∙ list-is
+        rw (e, long) (take_at (gathered bytes s.records) _ _ refl) ∙ list_is
 
     -- and their lines written
-    pub bundle-lines : (text after : List ℕ) (answer : Wrote) → 9360 ≤ length text → Writes s.entities s.names (take n records) text answer after
+    pub bundle_lines : (text after : List ℕ) (answer : Wrote) → 9360 ≤ length text → Writes s.entities s.names (take n records) text answer after
         → Gives (reader_rows bytes) (LinesFrom bytes) after answer
-    bundle-lines text after answer long wrote =
+    bundle_lines text after answer long wrote =
         let c = accepted_contents bytes s h in
         let E = s.entities in
         let R = s.names in

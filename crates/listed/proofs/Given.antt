@@ -10,7 +10,7 @@ use Rattle.base.specs.Refusals.{Row, Clear, AllOnePlace, AllNumbered, refused, p
 use Rattle.base.proofs.Refusals.{due_number}
 use Rattle.answers.specs.Line.{refusal_line, Holds}
 use Rattle.said.specs.Line.{LineBy}
-use Rattle.said.proofs.Line.{line_refused, line-given, one_line}
+use Rattle.said.proofs.Line.{line_refused, line_given, one_line}
 use Rattle.lines.specs.Right.{Line}
 use Rattle.lines.specs.Text.{list_text}
 use Rattle.lists.specs.declared.Listed.{Listed}
@@ -38,27 +38,27 @@ module _ {K : Type 0} (Right : List (Line K) → Type 0) (key_text : K → List 
     no_short : Clear (short_row needed before ∷ [])
     no_short = ((λ (_, (_, l)). omega arith), tt)
 
-    pub prints-listed : (o : Listed) (l : Listing) → ListPromise Right key_text (rows ++ (short_row needed before ∷ [])) before after o → Tells o l
+    pub prints_listed : (o : Listed) (l : Listing) → ListPromise Right key_text (rows ++ (short_row needed before ∷ [])) before after o → Tells o l
         → ListsAllowed after l (LineBy rows (GivenText Right key_text))
-    prints-listed (Length n) l (refused d k) t = absurd (omega (arith, due_number (rows ++ (short_row needed before ∷ [])) numbered 0 0 d))
-    prints-listed (Length n) l (passed _ _ c g) (size, line, problem) =
+    prints_listed (Length n) l (refused d k) t = absurd (omega (arith, due_number (rows ++ (short_row needed before ∷ [])) numbered 0 0 d))
+    prints_listed (Length n) l (passed _ _ c g) (size, line, problem) =
         record {
           inside = rw size (text_inside n g);
           line = [];
           holds = line;
           allowed =
               rw (size, append-nil (take n after))
-              (line-given rows (GivenText Right key_text) (short_row needed before ∷ []) no_short c
+              (line_given rows (GivenText Right key_text) (short_row needed before ∷ []) no_short c
               (record { list = g.list; right = g.right; text = text_front n g }));
         }
-    prints-listed (Refused n p) l (refused d k) (size, line, problem) =
+    prints_listed (Refused n p) l (refused d k) (size, line, problem) =
         record {
           inside = omega arith;
           line = refusal_line n p;
           holds = line;
           allowed = rw size (line_refused rows (GivenText Right key_text) (short_row needed before ∷ []) no_short n p d);
         }
-    prints-listed (Refused n p) l (passed _ _ c g) t = absurd (omega (arith, some_text key_text g.list, g.length_said))
+    prints_listed (Refused n p) l (passed _ _ c g) t = absurd (omega (arith, some_text key_text g.list, g.length_said))
 
   -- one text
   pub prints_one : AllOnePlace rows → ((xs ys : List (Line K)) → Right xs → Right ys → xs ≡ ys) → (one two : List ℕ)

@@ -15,7 +15,7 @@ use Rattle.lines.specs.Right.{Line}
 use Rattle.lists.specs.Asked.{SureIn, PossibleIn, PersonBefore, RightMembers, RoleBefore, RightRoles}
 use Rattle.lines.specs.Numbered.{role_at}
 use Rattle.lines.proofs.Once.{right_once}
-use Rattle.lines.proofs.Numbering.{numbered-right}
+use Rattle.lines.proofs.Numbering.{numbered_right}
 use Rattle.lists.proofs.Found.{persons_one_way, roles_one_way, persons_rise, roles_rise, sure_possible, person_found, role_found}
 
 -- what is decided, as a test
@@ -45,7 +45,7 @@ module _ (h : Holding) (sound : SoundHolding h) where
   pub one_members_list : (ρ : Role) → OneList (RightMembers h ρ)
   one_members_list ρ =
       let right =
-      numbered-right suc (λ i. test (sure ρ (suc i))) (λ i. test (possible ρ (suc i))) PersonBefore persons_rise (λ D. SureIn h ρ D) (λ D. PossibleIn h ρ D)
+      numbered_right suc (λ i. test (sure ρ (suc i))) (λ i. test (possible ρ (suc i))) PersonBefore persons_rise (λ D. SureIn h ρ D) (λ D. PossibleIn h ρ D)
       h.entities (λ D s. sure_possible h ρ D s) (λ D p. person_found h sound h.entities (le_refl h.entities) ρ D p)
       (λ i l. test_tells (sure ρ (suc i))) (λ i l. possible_told ρ (suc i)) in
       (_, right, λ others r. right_once PersonBefore persons_one_way others _ r right)
@@ -54,7 +54,7 @@ module _ (h : Holding) (sound : SoundHolding h) where
   one_roles_list D =
       let W = h.names in
       let right =
-      numbered-right (role_at W) (λ i. test (sure (role_at W i) D)) (λ i. test (possible (role_at W i) D)) RoleBefore (roles_rise W)
+      numbered_right (role_at W) (λ i. test (sure (role_at W i) D)) (λ i. test (possible (role_at W i) D)) RoleBefore (roles_rise W)
       (λ ρ. SureIn h ρ D) (λ ρ. PossibleIn h ρ D) (W * h.entities) (λ ρ s. sure_possible h ρ D s)
       (λ ρ p. role_found h sound h.entities W (le_refl h.entities) (le_refl W) ρ D p) (λ i l. test_tells (sure (role_at W i) D))
       (λ i l. possible_told (role_at W i) D) in

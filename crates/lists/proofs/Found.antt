@@ -5,9 +5,9 @@ use native.Mathlib.Nat.{div-zero, mod-zero, div-lt_iff_lt-mul, div-add-mod}
 use native.Mathlib.Decide.{dec_lt}
 use native.Mathlib.Omega.{arith}
 use mathlib.Core.Path.{◌≡◌, refl, sym, ap₂}
-use mathlib.Core.Logic.{◌⊎◌, inl, inr, ⊎_elim}
+use mathlib.Core.Logic.{inl, inr, ⊎_elim}
 use mathlib.Core.List.Memᴰ
-use mathlib.Core.List.{List, [], ◌++◌, append-nil}
+use mathlib.Core.List.{[], ◌++◌, append-nil}
 use Rattle.rt0.specs.Credential.{Role, ◌·◌, IsEntity, IsName, ValidRole}
 use Rattle.rt0.specs.Word.{place}
 use Rattle.rt0.specs.Holding.{Holding, SoundHolding}

@@ -56,19 +56,19 @@ module _ {K : Type 0} (Right : List (Line K) → Type 0) (key_text : K → List 
       (record { none = refl; untouched = refl })
 
   module _ (clear : Clear (reader_rows bytes)) where
-    pub refused-asked : asked.number ≡ 7 → asked.At 0 → ListPromise Right key_text (list_rows bytes asked needed before) before before (Refused 7 0)
-    refused-asked e at =
+    pub refused_asked : asked.number ≡ 7 → asked.At 0 → ListPromise Right key_text (list_rows bytes asked needed before) before before (Refused 7 0)
+    refused_asked e at =
         refused (due_later (reader_rows bytes) (asked ∷ short_row needed before ∷ []) 7 0 clear (inl (e, at))) (record { none = refl; untouched = refl })
 
-    pub refused-short : (Applies asked → ⊥) → length before < needed → ListPromise Right key_text (list_rows bytes asked needed before) before before (Refused 8 0)
-    refused-short none l =
+    pub refused_short : (Applies asked → ⊥) → length before < needed → ListPromise Right key_text (list_rows bytes asked needed before) before before (Refused 8 0)
+    refused_short none l =
         refused (due_later (reader_rows bytes) (asked ∷ short_row needed before ∷ []) 8 0 clear (inr (none, inl (refl, (refl, l)))))
         (record { none = refl; untouched = refl })
 
-    pub list-given : (Applies asked → ⊥) → needed ≤ length before → (ls : List (Line K)) → Right ls → length (list_text key_text ls) ≤ needed
+    pub list_given : (Applies asked → ⊥) → needed ≤ length before → (ls : List (Line K)) → Right ls → length (list_text key_text ls) ≤ needed
         → {after : List ℕ} {r : ℕ} → Wrote before 0 (list_text key_text ls) after r
         → ListPromise Right key_text (list_rows bytes asked needed before) before after (Length r)
-    list-given none room ls right fits w =
+    list_given none room ls right fits w =
         let (text, size) = wrote_text w (omega arith) in
         passed refl refl
         (clear_both (reader_rows bytes) (asked ∷ short_row needed before ∷ []) clear (none, ((λ (_, (_, l)). omega arith), tt)))
@@ -99,33 +99,33 @@ module _ (bytes : List ℕ) (s : Sizes) (accepts : Accepts bytes s) where
 
   -- the members of a role
   module _ (A r : ℕ) (before : List ℕ) {a b : Bool} (e : a ≡ outside s.entities A) (f : b ≡ outside s.names r) where
-    wrong-is : (a || b) ≡ role_wrong s.entities s.names (A · r)
-    wrong-is = ap₂ ◌||◌ e f
+    wrong_is : (a || b) ≡ role_wrong s.entities s.names (A · r)
+    wrong_is = ap₂ ◌||◌ e f
 
-    pub members-wrong : (a || b) ≡ true → MembersPromise bytes (A · r) before before (Refused 7 0)
-    members-wrong w =
-        refused-asked (RightMembers (holding_in bytes) (A · r)) person_text bytes (role_row bytes (A · r)) members_bytes before accepts.clear refl
-        (refl, (role_tells A r).0 (sym wrong-is ∙ w))
+    pub members_wrong : (a || b) ≡ true → MembersPromise bytes (A · r) before before (Refused 7 0)
+    members_wrong w =
+        refused_asked (RightMembers (holding_in bytes) (A · r)) person_text bytes (role_row bytes (A · r)) members_bytes before accepts.clear refl
+        (refl, (role_tells A r).0 (sym wrong_is ∙ w))
 
-    not-wrong : (a || b) ≡ false → Applies (role_row bytes (A · r)) → ⊥
-    not-wrong w (_, (_, x)) = clash_flag ((role_tells A r).1 x) (sym wrong-is ∙ w)
+    not_wrong : (a || b) ≡ false → Applies (role_row bytes (A · r)) → ⊥
+    not_wrong w (_, (_, x)) = clash_flag ((role_tells A r).1 x) (sym wrong_is ∙ w)
 
-    pub members-short : (a || b) ≡ false → length before < members_bytes → MembersPromise bytes (A · r) before before (Refused 8 0)
-    members-short w l =
-        refused-short (RightMembers (holding_in bytes) (A · r)) person_text bytes (role_row bytes (A · r)) members_bytes before accepts.clear
-        (not-wrong w) l
+    pub members_short : (a || b) ≡ false → length before < members_bytes → MembersPromise bytes (A · r) before before (Refused 8 0)
+    members_short w l =
+        refused_short (RightMembers (holding_in bytes) (A · r)) person_text bytes (role_row bytes (A · r)) members_bytes before accepts.clear
+        (not_wrong w) l
 
-    pub members-given : {ws vs after : List ℕ} {x y n : ℕ} → (a || b) ≡ false → members_bytes ≤ length before → TablesOf (holding_in bytes) ws vs
+    pub members_given : {ws vs after : List ℕ} {x y n : ℕ} → (a || b) ≡ false → members_bytes ≤ length before → TablesOf (holding_in bytes) ws vs
         → x ≡ word_of ws A r → y ≡ word_of vs A r → Wrote before 0 (list_text person_text (members_up_to x y most_entities)) after n
         → MembersPromise bytes (A · r) before after (Length n)
-    members-given {x = x} {y} w room shown g h wrote =
+    members_given {x = x} {y} w room shown g h wrote =
         let (entity, name) = or_false a b w in
-        let in-entities : (1 ≤ A) × (A ≤ s.entities) = inside s.entities A (sym e ∙ entity) in
-        let in-names : (1 ≤ r) × (r ≤ s.names) = inside s.names r (sym f ∙ name) in
+        let in_entities : (1 ≤ A) × (A ≤ s.entities) = inside s.entities A (sym e ∙ entity) in
+        let in_names : (1 ≤ r) × (r ≤ s.names) = inside s.names r (sym f ∙ name) in
         let right : RightMembers (holding_in bytes) (A · r) (members_up_to x y most_entities) =
         rw (g, h) (members_right (holding_in bytes) sound entities_most names_most shown A r (omega (arith, E)) (omega (arith, R))) in
-        list-given (RightMembers (holding_in bytes) (A · r)) person_text bytes (role_row bytes (A · r)) members_bytes before accepts.clear
-        (not-wrong w) room (members_up_to x y most_entities) right
+        list_given (RightMembers (holding_in bytes) (A · r)) person_text bytes (role_row bytes (A · r)) members_bytes before accepts.clear
+        (not_wrong w) room (members_up_to x y most_entities) right
         (text_few suc (λ i. is_one x i) (λ i. is_one y i) person_text member_line most_entities (omega arith) person_few) wrote
 
   -- the roles of a person
@@ -133,23 +133,23 @@ module _ (bytes : List ℕ) (s : Sizes) (accepts : Accepts bytes s) where
   person_from_one D e w = (inside s.entities D (sym e ∙ w)).0
 
   module _ (D : ℕ) (before : List ℕ) {a : Bool} (e : a ≡ outside s.entities D) where
-    pub roles-wrong : a ≡ true → RolesPromise bytes D before before (Refused 7 0)
-    roles-wrong w =
-        refused-asked (RightRoles (holding_in bytes) D) role_text bytes (person_row bytes D) roles_bytes before accepts.clear refl
+    pub roles_wrong : a ≡ true → RolesPromise bytes D before before (Refused 7 0)
+    roles_wrong w =
+        refused_asked (RightRoles (holding_in bytes) D) role_text bytes (person_row bytes D) roles_bytes before accepts.clear refl
         (refl, (person_tells D).0 (sym e ∙ w))
 
-    nobody-wrong : a ≡ false → Applies (person_row bytes D) → ⊥
-    nobody-wrong w (_, (_, x)) = clash_flag ((person_tells D).1 x) (sym e ∙ w)
+    nobody_wrong : a ≡ false → Applies (person_row bytes D) → ⊥
+    nobody_wrong w (_, (_, x)) = clash_flag ((person_tells D).1 x) (sym e ∙ w)
 
-    pub roles-short : a ≡ false → length before < roles_bytes → RolesPromise bytes D before before (Refused 8 0)
-    roles-short w l =
-        refused-short (RightRoles (holding_in bytes) D) role_text bytes (person_row bytes D) roles_bytes before accepts.clear (nobody-wrong w) l
+    pub roles_short : a ≡ false → length before < roles_bytes → RolesPromise bytes D before before (Refused 8 0)
+    roles_short w l =
+        refused_short (RightRoles (holding_in bytes) D) role_text bytes (person_row bytes D) roles_bytes before accepts.clear (nobody_wrong w) l
 
-    pub roles-given : {ws vs after : List ℕ} {n : ℕ} → a ≡ false → roles_bytes ≤ length before → TablesOf (holding_in bytes) ws vs
+    pub roles_given : {ws vs after : List ℕ} {n : ℕ} → a ≡ false → roles_bytes ≤ length before → TablesOf (holding_in bytes) ws vs
         → Wrote before 0 (list_text role_text (roles_up_to ws vs (D - 1) table_words)) after n → RolesPromise bytes D before after (Length n)
-    roles-given {ws} {vs} w room shown wrote =
+    roles_given {ws} {vs} w room shown wrote =
         let within : (1 ≤ D) × (D ≤ s.entities) = inside s.entities D (sym e ∙ w) in
-        list-given (RightRoles (holding_in bytes) D) role_text bytes (person_row bytes D) roles_bytes before accepts.clear (nobody-wrong w) room
+        list_given (RightRoles (holding_in bytes) D) role_text bytes (person_row bytes D) roles_bytes before accepts.clear (nobody_wrong w) room
         (roles_up_to ws vs (D - 1) table_words)
         (roles_right (holding_in bytes) sound entities_most names_most shown D (omega (arith, E)))
         (text_few (role_at width) (λ i. is_one (get_or ws i 0) (D - 1)) (λ i. is_one (get_or vs i 0) (D - 1)) role_text role_line table_words (omega arith)

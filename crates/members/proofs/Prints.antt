@@ -25,7 +25,7 @@ use Rattle.lists.proofs.Found.{persons_one_way}
 use Rattle.lists.proofs.Determined.{list_numbers}
 use Rattle.listed.specs.declared.Listing.{Listing}
 use Rattle.listed.specs.Listing.{ListsAllowed, Tells}
-use Rattle.listed.proofs.Given.{prints-listed, prints_one}
+use Rattle.listed.proofs.Given.{prints_listed, prints_one}
 use Rattle.members.specs.Input.{question_bytes, longest_input, bundle_of, role_of}
 use Rattle.members.specs.Prints.{members_rows, Prints}
 
@@ -41,7 +41,7 @@ module _ (input : List ℕ) where
   pub prints_list : (before after : List ℕ) (o : Listed) (l : Listing) → members_bytes ≤ length before
       → MembersPromise (bundle_of input) (role_of input) before after o → Tells o l → ListsAllowed after l (Prints input)
   prints_list before after o l room =
-      prints-listed (RightMembers (holding_in (bundle_of input)) (role_of input)) person_text (members_rows input) members_bytes before after room
+      prints_listed (RightMembers (holding_in (bundle_of input)) (role_of input)) person_text (members_rows input) members_bytes before after room
       (list_numbers (bundle_of input) (role_row (bundle_of input) (role_of input)) members_bytes before (omega arith)) o l
 
   pub prints_longer : longest_input < length input → Prints input (refusal_line 1 0)

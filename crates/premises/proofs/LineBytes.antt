@@ -77,7 +77,7 @@ length_line (line D c p q s) = refl
 sets_wrote : (before after : List ℕ) (n : ℕ) (l : Line) → 8 * n + 8 ≤ length before → after ≡ sets before (8 * n) (bytes_of_line l)
     → WroteLine before n l after
 unfolding lines_of
-sets_wrote before after n l b e = record { size = rw e (length-sets before (8 * n) bytes); lines = lines_after; rest = rest-after }
+sets_wrote before after n l b e = record { size = rw e (length-sets before (8 * n) bytes); lines = lines_after; rest = rest_after }
   where
     bytes : List ℕ
     bytes = bytes_of_line l
@@ -94,8 +94,8 @@ sets_wrote before after n l b e = record { size = rw e (length-sets before (8 * 
     lines_after : lines_of after (n + 1) ≡ lines_of before n ++ (l ∷ [])
     lines_after = rw (add-one, earlier, last)
 
-    rest-after : drop (8 * (n + 1)) after ≡ drop (8 * (n + 1)) before
-    rest-after =
+    rest_after : drop (8 * (n + 1)) after ≡ drop (8 * (n + 1)) before
+    rest_after =
         let behind : 8 * (n + 1) ≡ 8 * n + length bytes = omega (arith, eight) in
         rw (behind, e) (sets_behind bytes before (8 * n))
 

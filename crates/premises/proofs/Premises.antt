@@ -70,20 +70,20 @@ module _ (E : ℕ) (e : E ≤ most_entities) (ws : List ℕ) (D : ℕ) where
   -- ---- each form
 
   module _ (index : List ℕ) where
-    in-found : (k : Record) → bit (give_of E ws k) (D - 1) ≡ 1 → PremisesOf E ws index (credential_of k) D (premises_in ws index k D)
+    in_found : (k : Record) → bit (give_of E ws k) (D - 1) ≡ 1 → PremisesOf E ws index (credential_of k) D (premises_in ws index k D)
     unfolding give_of premises_in link_premises
-    in-found (variant.Entity h B) g = (refl, (refl, (refl, tt)))
-    in-found (variant.Role h ρ) g = (refl, (refl, (refl, tt)))
-    in-found (variant.Link h r1 r2) g =
+    in_found (variant.Entity h B) g = (refl, (refl, (refl, tt)))
+    in_found (variant.Role h ρ) g = (refl, (refl, (refl, tt)))
+    in_found (variant.Link h r1 r2) g =
         let least : min E most_entities ≡ E = omega arith in
         let w = word_of ws h.entity r1 in
         (lowest_between ws w r2 D, between_there w r2 (rw least at g), refl, refl, (refl, tt))
-    in-found (variant.TwoParts h ρ σ) g = (refl, (refl, (refl, tt)))
-    in-found (variant.ThreeParts h ρ σ τ) g = (refl, (refl, (refl, tt)))
-    in-found variant.Nothing g = tt
+    in_found (variant.TwoParts h ρ σ) g = (refl, (refl, (refl, tt)))
+    in_found (variant.ThreeParts h ρ σ τ) g = (refl, (refl, (refl, tt)))
+    in_found variant.Nothing g = tt
 
     -- for a record that gives D from the words
-    pub premises-found : IsEntity most_entities D → (k : Record) → bit (give_of E ws k) (D - 1) ≡ 1
+    pub premises_found : IsEntity most_entities D → (k : Record) → bit (give_of E ws k) (D - 1) ≡ 1
         → PremisesOf E ws index (credential_of k) D (premises_by ws index k D)
     unfolding premises_by
-    premises-found d k g = rw (inside_flag most_entities D d.above d.within) (in-found k g)
+    premises_found d k g = rw (inside_flag most_entities D d.above d.within) (in_found k g)

@@ -24,7 +24,7 @@ use Rattle.lists.proofs.Found.{roles_one_way}
 use Rattle.lists.proofs.Determined.{list_numbers}
 use Rattle.listed.specs.declared.Listing.{Listing}
 use Rattle.listed.specs.Listing.{ListsAllowed, Tells}
-use Rattle.listed.proofs.Given.{prints-listed, prints_one}
+use Rattle.listed.proofs.Given.{prints_listed, prints_one}
 use Rattle.roles.specs.Input.{question_bytes, longest_input, bundle_of, person_of}
 use Rattle.roles.specs.Prints.{roles_rows, Prints}
 
@@ -38,7 +38,7 @@ module _ (input : List ℕ) where
   pub prints_list : (before after : List ℕ) (o : Listed) (l : Listing) → roles_bytes ≤ length before
       → RolesPromise (bundle_of input) (person_of input) before after o → Tells o l → ListsAllowed after l (Prints input)
   prints_list before after o l room =
-      prints-listed (RightRoles (holding_in (bundle_of input)) (person_of input)) role_text (roles_rows input) roles_bytes before after room
+      prints_listed (RightRoles (holding_in (bundle_of input)) (person_of input)) role_text (roles_rows input) roles_bytes before after room
       (list_numbers (bundle_of input) (person_row (bundle_of input) (person_of input)) roles_bytes before (omega arith)) o l
 
   pub prints_longer : longest_input < length input → Prints input (refusal_line 1 0)

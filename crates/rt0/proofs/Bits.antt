@@ -93,12 +93,12 @@ pub bit_high : (k w d : ℕ) → w < 2 ^ k → k ≤ d → bit w d ≡ 0
 bit_high k w d h l = rw (div-eq_of_lt (lt_of_lt_of_le h (pow_mono l)))
 
 same_bit : (x y : ℕ) → x < 2 → y < 2 → (x ≡ 1) ↔ (y ≡ 1) → x ≡ y
-same_bit x y hx hy h = compare-bits (zero_or_one x hx) (zero_or_one y hy)
+same_bit x y hx hy h = compare_bits (zero_or_one x hx) (zero_or_one y hy)
   where
-    compare-bits : (x ≡ 0) ⊎ (x ≡ 1) → (y ≡ 0) ⊎ (y ≡ 1) → x ≡ y
-    compare-bits (inl p) (inl q) = omega arith
-    compare-bits (inl p) (inr q) = omega (arith, h.1 q)
-    compare-bits (inr p) q = omega (arith, h.0 p)
+    compare_bits : (x ≡ 0) ⊎ (x ≡ 1) → (y ≡ 0) ⊎ (y ≡ 1) → x ≡ y
+    compare_bits (inl p) (inl q) = omega arith
+    compare_bits (inl p) (inr q) = omega (arith, h.1 q)
+    compare_bits (inr p) q = omega (arith, h.0 p)
 
 pub bits_same : (k a b : ℕ) → a < 2 ^ k → b < 2 ^ k → ((d : ℕ) → d < k → (bit a d ≡ 1) ↔ (bit b d ≡ 1)) → a ≡ b
 bits_same zero a b ha hb h = omega arith

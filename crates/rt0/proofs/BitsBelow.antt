@@ -48,10 +48,10 @@ module _ (holds : ℕ → Bool) where
   bits_none = refl
 
   module _ (k word : ℕ) (e : word ≡ bits_below holds k) where
-    pub bits-one : (bits : ℕ) → k < bits → holds k ≡ true → bit_or word (1 * 2 ^ k % 2 ^ bits) ≡ bits_below holds (k + 1)
+    pub bits_one : (bits : ℕ) → k < bits → holds k ≡ true → bit_or word (1 * 2 ^ k % 2 ^ bits) ≡ bits_below holds (k + 1)
     unfolding bits_below
-    bits-one bits l h = rw (shifted_one bits k l, add-one, h, e)
+    bits_one bits l h = rw (shifted_one bits k l, add-one, h, e)
 
-    pub bits-other : holds k ≡ false → word ≡ bits_below holds (k + 1)
+    pub bits_other : holds k ≡ false → word ≡ bits_below holds (k + 1)
     unfolding bits_below
-    bits-other h = rw (add-one, h, or_zero_r, e)
+    bits_other h = rw (add-one, h, or_zero_r, e)

@@ -26,24 +26,24 @@ module _ (E R : ℕ) (entities : E ≤ 32) (cs : List Credential) (v : AllValid 
 
   -- and at most 7,680 in all, where a book has at most 240 numbers for the credentials
   module _ (book : Book) {most : ℕ} (numbers : Numbers book cs most) (few : most ≤ 240) where
-    heads-most : 32 * length (distinct_heads cs) ≤ most_rounds
-    heads-most = omega (arith, heads_few numbers)
+    heads_most : 32 * length (distinct_heads cs) ≤ most_rounds
+    heads_most = omega (arith, heads_few numbers)
 
-    pub rounds-most : (n : ℕ) → Rounds cs n → n ≤ most_rounds
-    rounds-most n h = omega (arith, rounds_by_heads n h, heads-most)
+    pub rounds_most : (n : ℕ) → Rounds cs n → n ≤ most_rounds
+    rounds_most n h = omega (arith, rounds_by_heads n h, heads_most)
 
     -- a right slip that states no fact twice fits
-    pub slip-most : (lines : List Line) (ρ : Role) (D : ℕ) → SlipFor book ρ D lines → NoFactTwice book lines
+    pub slip_most : (lines : List Line) (ρ : Role) (D : ℕ) → SlipFor book ρ D lines → NoFactTwice book lines
         → (1 ≤ length lines) × (length lines ≤ slip_lines)
-    slip-most lines ρ D s once =
+    slip_most lines ρ D s once =
         let inside = says_within book lines (length lines) (ρ ∋ D) s.last in
         let short = slip_short E R cs v book numbers.only lines s.right once in
-        omega (arith, heads_times, heads-most)
+        omega (arith, heads_times, heads_most)
 
     -- for every member there is one
-    pub slip-fits : (ρ : Role) (D : ℕ) → Member cs ρ D
+    pub slip_fits : (ρ : Role) (D : ℕ) → Member cs ρ D
         → (lines : List Line) × SlipFor book ρ D lines × NoFactTwice book lines × (1 ≤ length lines) × (length lines ≤ slip_lines)
-    slip-fits ρ D m =
+    slip_fits ρ D m =
         let (lines, s, once) = slip_complete E R cs v book numbers ρ D m in
-        let fits = slip-most lines ρ D s once in
+        let fits = slip_most lines ρ D s once in
         (lines, s, once, fits.0, fits.1)

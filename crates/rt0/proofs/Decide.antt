@@ -129,6 +129,6 @@ module _ (E R B W : ℕ) (e : E ≤ B) (r : R ≤ W) (is_open : Open) (cs : List
       let settled = rest_settled none (none_fits E R B W e r) in
       let sure = settled_sure E R B W e r cs v _ _ settled in
       let possible = settled_possible E R B W e r cs v is_open _ _ (rest_settled full (open_fits E R B W e r is_open)) in
-      let sure-read = holds_shown B W (at_rest E W cs none).words (Member cs) sure ρ D i d in
-      let possible-read = holds_shown B W (at_rest E W cs full).words (Possible E R is_open cs) possible ρ D i d in
-      (verdict_right ρ D _ _ sure-read possible-read, settled_rounds E R B W e r cs v _ _ settled)
+      let sure_read = holds_shown B W (at_rest E W cs none).words (Member cs) sure ρ D i d in
+      let possible_read = holds_shown B W (at_rest E W cs full).words (Possible E R is_open cs) possible ρ D i d in
+      (verdict_right ρ D _ _ sure_read possible_read, settled_rounds E R B W e r cs v _ _ settled)

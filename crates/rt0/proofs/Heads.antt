@@ -21,7 +21,7 @@ use Rattle.rt0.proofs.Lists.{flat_map_holds, up_to, up_to_holds, length_up_to}
 same_role_lem : (ρ σ : Role) → same_role ρ σ ≡ true → ρ ≡ σ
 same_role_lem (A · r) (B · s) e =
     let both = (and-eq-true_iff (eqb A B) (eqb r s)).0 e in
-    let same-entity = eqb-true A B both.0 in
+    let same_entity = eqb-true A B both.0 in
     let same_name = eqb-true r s both.1 in
     cc
 

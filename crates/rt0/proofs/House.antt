@@ -52,11 +52,11 @@ unfolding sound answer
 computed_right k h =
     let E = k.entities in
     let R = k.names in
-    let held-good = every (valid E R) k.held in
-    let role-good = valid_role E R k.into in
-    let asked-good = from_one_to E k.asked in
-    let b : (held-good ≡ true) × ((role-good && asked-good) ≡ true) = both_true held-good (role-good && asked-good) h in
-    let c : (role-good ≡ true) × (asked-good ≡ true) = both_true role-good asked-good b.1 in
+    let held_good = every (valid E R) k.held in
+    let role_good = valid_role E R k.into in
+    let asked_good = from_one_to E k.asked in
+    let b : (held_good ≡ true) × ((role_good && asked_good) ≡ true) = both_true held_good (role_good && asked_good) h in
+    let c : (role_good ≡ true) × (asked_good ≡ true) = both_true role_good asked_good b.1 in
     answer_words_lem E R E R (le_refl E) (le_refl R) (opens k) k.held (all_valid_from E R k.held b.0) k.into k.asked
     (role_from E R k.into c.0) (entity_from E k.asked c.1)
 
@@ -68,13 +68,13 @@ pass_right : (k : Case) → passes k ≡ true → RightCase k
 unfolding passes
 pass_right k h =
     let same_answer = same_verdict (answer k).verdict k.verdict in
-    let same-rounds = eqb (answer k).rounds k.rounds in
-    let b : (sound k ≡ true) × ((same_answer && same-rounds) ≡ true) = both_true (sound k) (same_answer && same-rounds) h in
-    let c : (same_answer ≡ true) × (same-rounds ≡ true) = both_true same_answer same-rounds b.1 in
+    let same_rounds = eqb (answer k).rounds k.rounds in
+    let b : (sound k ≡ true) × ((same_answer && same_rounds) ≡ true) = both_true (sound k) (same_answer && same_rounds) h in
+    let c : (same_answer ≡ true) × (same_rounds ≡ true) = both_true same_answer same_rounds b.1 in
     let right = computed_right k b.0 in
-    let verdict-same = same_verdict_lem (answer k).verdict k.verdict c.0 in
-    let rounds-same = eqb-true (answer k).rounds k.rounds c.1 in
-    (rw (← verdict-same) right.0, rw (← rounds-same) right.1)
+    let verdict_same = same_verdict_lem (answer k).verdict k.verdict c.0 in
+    let rounds_same = eqb-true (answer k).rounds k.rounds c.1 in
+    (rw (← verdict_same) right.0, rw (← rounds_same) right.1)
 
 all_pass : every passes cases ≡ true
 unfolding passes sound answer every cases present_but among some_absent answer_words settle_words same_words none_words open_words

@@ -88,13 +88,13 @@ module _ (E R B W : ℕ) (e : E ≤ B) (r : R ≤ W) (cs : List Credential) (v :
       keeps : (ρ : Role) → Keeps (before ρ) (after ρ)
       keeps ρ = round_keeps E W cs ws (place W ρ)
 
-      same-missing : (ρ : Role) → ρ ∈ distinct_heads cs → missing E (after ρ) ≡ missing E (before ρ)
-      same-missing = total_kept (λ ρ. missing E (after ρ)) (λ ρ. missing E (before ρ))
+      same_missing : (ρ : Role) → ρ ∈ distinct_heads cs → missing E (after ρ) ≡ missing E (before ρ)
+      same_missing = total_kept (λ ρ. missing E (after ρ)) (λ ρ. missing E (before ρ))
           (λ ρ. missing_lower E (before ρ) (after ρ) (keeps ρ)) (distinct_heads cs) h
 
       same : (i : ℕ) → OfHead W cs i → get_or (round_words E W cs ws) i 0 ≡ get_or ws i 0
       same i (c, k, q) = rw q (missing_kept E (before (head c)) (after (head c)) (f.small (place W (head c))) (g.small (place W (head c)))
-          (keeps (head c)) (same-missing (head c) (head_distinct cs c k)))
+          (keeps (head c)) (same_missing (head c) (head_distinct cs c k)))
 
   pub room_falls : (ws : List ℕ) → Fits E B W ws → (round_words E W cs ws ≡ ws → ⊥) → room E W cs (round_words E W cs ws) < room E W cs ws
   room_falls ws f h =
@@ -186,12 +186,12 @@ module _ (E R B W : ℕ) (e : E ≤ B) (r : R ≤ W) (cs : List Credential) (v :
       shows = grown_shows E R B W e r cs v S within (open_words E R W is_open (W * B))
           (open_fits E R B W e r is_open) (open_shows E R B W e r is_open)
 
-      adds-nothing : (ρ : Role) (D : ℕ) → grown cs S (suc n) ρ D → grown cs S n ρ D
-      adds-nothing = shown_into E R B W e r (times (suc n)) (grown cs S (suc n)) (grown cs S n) (shows (suc n))
+      adds_nothing : (ρ : Role) (D : ℕ) → grown cs S (suc n) ρ D → grown cs S n ρ D
+      adds_nothing = shown_into E R B W e r (times (suc n)) (grown cs S (suc n)) (grown cs S n) (shows (suc n))
           (rw (settled_still E W cs _ n ws s) (shows n)) (grown_within E R B W e r cs v S within (suc n))
 
       up : (ρ : Role) (D : ℕ) → Possible E R is_open cs ρ D → grown cs S n ρ D
-      up = possible.least (grown cs S n) (grown_closed cs S n adds-nothing) (λ ρ i o D d. grown_keeps cs S n ρ D (i, o, d))
+      up = possible.least (grown cs S n) (grown_closed cs S n adds_nothing) (λ ρ i o D d. grown_keeps cs S n ρ D (i, o, d))
 
       down : (ρ : Role) (D : ℕ) → grown cs S n ρ D → Possible E R is_open cs ρ D
       down = grown_least cs S (Possible E R is_open cs) possible.closed (λ ρ D h. possible.everyone ρ h.0 h.1 D h.2) n

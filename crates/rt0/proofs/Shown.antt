@@ -188,48 +188,48 @@ module _ (E R B W : ℕ) (e : E ≤ B) (r : R ≤ W) where
 
   -- from the words ws, which show P: one use of a credential, and of each of a list, on words acc that show Q
   module _ (ws : List ℕ) (f : Fits E B W ws) where
-    use-fits : (acc : List ℕ) → Fits E B W acc → (c : Credential) → Valid E R c → Fits E B W (use_word E W ws acc c)
+    use_fits : (acc : List ℕ) → Fits E B W acc → (c : Credential) → Valid E R c → Fits E B W (use_word E W ws acc c)
     unfolding use_word
-    use-fits acc g c v =
+    use_fits acc g c v =
         let p : ℕ = place W (head c) in
         record {
           size = length-set acc p _ ∙ g.size;
           small = set_small (2 ^ E) acc p _ g.small (or_lt E _ _ (g.small p) (give_small ws f c v));
         }
 
-    uses-fit : (acc : List ℕ) → Fits E B W acc → (cs : List Credential) → AllValid E R cs → Fits E B W (use_words E W ws acc cs)
+    uses_fit : (acc : List ℕ) → Fits E B W acc → (cs : List Credential) → AllValid E R cs → Fits E B W (use_words E W ws acc cs)
     unfolding use_words
-    uses-fit acc g [] v = g
-    uses-fit acc g (c ∷ cs) v =
-        uses-fit (use_word E W ws acc c) (use-fits acc g c (v c (Memᴰ.head refl))) cs (λ k i. v k (Memᴰ.tail i))
+    uses_fit acc g [] v = g
+    uses_fit acc g (c ∷ cs) v =
+        uses_fit (use_word E W ws acc c) (use_fits acc g c (v c (Memᴰ.head refl))) cs (λ k i. v k (Memᴰ.tail i))
 
     module _ (P : Assignment) (s : Shows B W ws P) (w : Within E R P) where
-      use-shows : (acc : List ℕ) (Q : Assignment) → Fits E B W acc → Shows B W acc Q → (c : Credential) → Valid E R c
+      use_shows : (acc : List ℕ) (Q : Assignment) → Fits E B W acc → Shows B W acc Q → (c : Credential) → Valid E R c
           → Shows B W (use_word E W ws acc c) (λ ρ D. Q ρ D ⊎ once c P ρ D)
       unfolding use_word
-      use-shows acc Q g t c v =
+      use_shows acc Q g t c v =
           added_shows B W acc Q g.size t (head c) (role_wider e r (head c) (valid_head E R c v))
           (give_word E W ws c) (Gives P c) (give_shows ws P f s w c v)
 
-      uses-show : (acc : List ℕ) (Q : Assignment) → Fits E B W acc → Shows B W acc Q → (cs : List Credential) → AllValid E R cs
+      uses_show : (acc : List ℕ) (Q : Assignment) → Fits E B W acc → Shows B W acc Q → (cs : List Credential) → AllValid E R cs
           → Shows B W (use_words E W ws acc cs) (λ ρ D. Q ρ D ⊎ next cs P ρ D)
       unfolding use_words
-      uses-show acc Q g t [] v = shows_as B W acc Q _ (λ ρ D. sum_first (λ (h : next [] P ρ D). Memᴰ.not-nil h.1)) t
-      uses-show acc Q g t (c ∷ cs) v =
+      uses_show acc Q g t [] v = shows_as B W acc Q _ (λ ρ D. sum_first (λ (h : next [] P ρ D). Memᴰ.not-nil h.1)) t
+      uses_show acc Q g t (c ∷ cs) v =
           let acc' : List ℕ = use_word E W ws acc c in
           let Q' : Assignment = λ ρ D. Q ρ D ⊎ once c P ρ D in
           let k : Valid E R c = v c (Memᴰ.head refl) in
-          let shown = uses-show acc' Q' (use-fits acc g c k) (use-shows acc Q g t c k) cs (λ k i. v k (Memᴰ.tail i)) in
+          let shown = uses_show acc' Q' (use_fits acc g c k) (use_shows acc Q g t c k) cs (λ k i. v k (Memᴰ.tail i)) in
           shows_as B W (use_words E W ws acc' cs) _ _ (next_cons c cs P Q) shown
 
   pub round_fits : (cs : List Credential) → AllValid E R cs → (ws : List ℕ) → Fits E B W ws → Fits E B W (round_words E W cs ws)
   unfolding round_words
-  round_fits cs v ws f = uses-fit ws f ws f cs v
+  round_fits cs v ws f = uses_fit ws f ws f cs v
 
   pub round_shows : (cs : List Credential) → AllValid E R cs → (ws : List ℕ) (P : Assignment)
       → Fits E B W ws → Shows B W ws P → Within E R P → Shows B W (round_words E W cs ws) (λ ρ D. P ρ D ⊎ next cs P ρ D)
   unfolding round_words
-  round_shows cs v ws P f s w = uses-show ws f P s w ws P f s cs v
+  round_shows cs v ws P f s w = uses_show ws f P s w ws P f s cs v
 
   pub none_fits : Fits E B W (none_words (W * B))
   none_fits = record { size = none_length (W * B); small = λ i. rw (none_at (W * B) i) (pow_pos E) }

@@ -45,9 +45,9 @@ module _ (book : Book) (cs : List Credential) (only : NamesOnly book cs) (lines 
           let r = right n (line X c p q t) e in
           let k = credential_behind X (book c) (ρ ∋ D) f in
           let given = follows_gives book (take n lines) (Member cs) (earlier_sound n before) r.0 X p q t r.2 in
-          let its-role : head r.0 ≡ ρ = cc in
-          let its-member : X ≡ D = cc in
-          rw (← its-role, ← its-member) (member_closed cs r.0 (only c r.0 r.1) X given)
+          let its_role : head r.0 ≡ ρ = cc in
+          let its_member : X ≡ D = cc in
+          rw (← its_role, ← its_member) (member_closed cs r.0 (only c r.0 r.1) X given)
 
   sound_to : (n : ℕ) → SoundTo n
   sound_to zero m le ρ D s = let inside = says_within book lines m (ρ ∋ D) s in absurd (omega arith)
@@ -111,20 +111,20 @@ further e f = record { lines = f.lines; terse = f.terse; keeps = λ n g s. f.kee
 
 -- the empty slip
 terse_nil : (book : Book) → Terse book []
-terse_nil book = record { right = λ n l e. absurd (none-ne-some l e); once = none-twice }
+terse_nil book = record { right = λ n l e. absurd (none-ne-some l e); once = none_twice }
   where
-    none-twice : NoFactTwice book []
-    none-twice m n f s t = let inside = says_within book [] m f s in omega arith
+    none_twice : NoFactTwice book []
+    none_twice m n f s t = let inside = says_within book [] m f s in omega arith
 
 -- a prefix
 terse_take : (book : Book) (lines : List Line) (n : ℕ) → Terse book lines → Terse book (take n lines)
-terse_take book lines n t = record { right = right-take; once = once-take }
+terse_take book lines n t = record { right = right_take; once = once_take }
   where
-    once-take : NoFactTwice book (take n lines)
-    once-take i j f s u = t.once i j f (first_says book lines n i f s) (first_says book lines n j f u)
+    once_take : NoFactTwice book (take n lines)
+    once_take i j f s u = t.once i j f (first_says book lines n i f s) (first_says book lines n j f u)
 
-    right-take : RightSlip book (take n lines)
-    right-take m l e =
+    right_take : RightSlip book (take n lines)
+    right_take m l e =
         let inside : m < length (take n lines) = item_within (take n lines) m l e in
         let below : m < n = omega (arith, length-take n lines) in
         let small : m ≤ n = omega arith in
@@ -147,10 +147,10 @@ right_snoc book lines l h r n x i = ⊎_elim old last (item_cases lines l n x i)
 -- one more line, which states a new fact
 terse_snoc : (book : Book) (lines : List Line) (l : Line) (f : Fact) → Terse book lines → RightLine book lines l
     → stated book (some l) ≡ some f → Unsaid book lines f → Terse book (lines ++ (l ∷ []))
-terse_snoc book lines l f t r e new = record { right = right_snoc book lines l t.right r; once = once-snoc }
+terse_snoc book lines l f t r e new = record { right = right_snoc book lines l t.right r; once = once_snoc }
   where
-    once-snoc : NoFactTwice book (lines ++ (l ∷ []))
-    once-snoc m n g s u = compared (says_cases book lines l m g s) (says_cases book lines l n g u)
+    once_snoc : NoFactTwice book (lines ++ (l ∷ []))
+    once_snoc m n g s u = compared (says_cases book lines l m g s) (says_cases book lines l n g u)
       where
         Found : ℕ → Type 0
         Found i = Says book lines i g ⊎ ((i ≡ suc (length lines)) × (stated book (some l) ≡ some g))
@@ -212,16 +212,16 @@ say book given t k c i D p q s w = ⊎_elim old new (search_fact book given (hea
 -- premises for the parts of an intersection in turn, padded with 0 to n numbers
 in_turn : (book : Book) (D n : ℕ) (parts : List Role) → length parts ≤ n → ((ρ : Role) → ρ ∈ parts → Sayable book ρ D)
     → (given : List Line) → Terse book given → Extension book given (λ lines. (ps : List ℕ) × (length ps ≡ n) × InTurn book lines D parts ps)
-in_turn book D n [] h say-part given t =
+in_turn book D n [] h say_part given t =
     record { lines = given; terse = t; keeps = λ n f u. u; reached = (replicate n 0, length-replicate n 0, all_none n) }
   where
     all_none : (n : ℕ) → AllNone (replicate n 0)
     all_none zero = tt
     all_none (suc n) = (refl, all_none n)
-in_turn book D zero (ρ ∷ ρs) h say-part given t = absurd (omega arith)
-in_turn book D (suc n) (ρ ∷ ρs) h say-part given t =
-    let first = say-part ρ (Memᴰ.head refl) given t in
-    let rest = in_turn book D n ρs (omega arith) (λ σ i. say-part σ (Memᴰ.tail i)) first.lines first.terse in
+in_turn book D zero (ρ ∷ ρs) h say_part given t = absurd (omega arith)
+in_turn book D (suc n) (ρ ∷ ρs) h say_part given t =
+    let first = say_part ρ (Memᴰ.head refl) given t in
+    let rest = in_turn book D n ρs (omega arith) (λ σ i. say_part σ (Memᴰ.tail i)) first.lines first.terse in
     let said = rest.keeps first.reached.0 (ρ ∋ D) first.reached.1 in
     further first (record {
       lines = rest.lines;
@@ -296,12 +296,12 @@ module _ (E R : ℕ) (cs : List Credential) (v : AllValid E R cs) (book : Book) 
       once : (m n : ℕ) (f : Fact) → Says book lines (suc m) f → Says book lines (suc n) f → m ≡ n
       once m n f s u = let same = t (suc m) (suc n) f s u in omega arith
 
-      said-by : (n : ℕ) (l : Line) → get_elem? lines n ≡ some l → (f : Fact) × Says book lines (suc n) f × (f ∈ facts)
-      said-by n (line D c p q s) e =
+      said_by : (n : ℕ) (l : Line) → get_elem? lines n ≡ some l → (f : Fact) × Says book lines (suc n) f × (f ∈ facts)
+      said_by n (line D c p q s) e =
           let r = line_says book lines h n D c p q s e in
-          let role-there = head_distinct cs r.0 (only c r.0 r.1) in
-          let member-there = line_entity (suc n) (head r.0) D r.2 in
-          (head r.0 ∋ D, r.2, fact_over E D member-there (distinct_heads cs) (head r.0) role-there)
+          let role_there = head_distinct cs r.0 (only c r.0 r.1) in
+          let member_there = line_entity (suc n) (head r.0) D r.2 in
+          (head r.0 ∋ D, r.2, fact_over E D member_there (distinct_heads cs) (head r.0) role_there)
 
       said : (n : ℕ) → n < length lines → (f : Fact) × Says book lines (suc n) f × (f ∈ facts)
-      said n b = let l = item_there lines n b in said-by n l.0 l.1
+      said n b = let l = item_there lines n b in said_by n l.0 l.1

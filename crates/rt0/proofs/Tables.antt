@@ -20,7 +20,7 @@ next_more cs P Q h ρ D (c, i, e, g) = (c, i, e, gives_more c P Q h D g)
 
 -- closed: whatever one use of each credential gives is there already
 next_closed : (cs : List Credential) (P : Assignment) → Closed cs P → (ρ : Role) (D : ℕ) → next cs P ρ D → P ρ D
-next_closed cs P h ρ D (c, i, e, g) = let its-head : head c ≡ ρ = e in rw (← its-head) (h c i D g)
+next_closed cs P h ρ D (c, i, e, g) = let its_head : head c ≡ ρ = e in rw (← its_head) (h c i D g)
 
 closed_next : (cs : List Credential) (P : Assignment) → ((ρ : Role) (D : ℕ) → next cs P ρ D → P ρ D) → Closed cs P
 closed_next cs P h c i D g = h _ D (c, i, refl, g)

@@ -31,11 +31,11 @@ entity_wider h a = omega arith
 
 -- a picked word has the bits of v where x is 1
 pick_bit : (x v d : ℕ) → (bit (pick_word (eqb x 1) v 0) d ≡ 1) ↔ ((x ≡ 1) × (bit v d ≡ 1))
-pick_bit x v d = by-test (eqb x 1) refl
+pick_bit x v d = by_test (eqb x 1) refl
   where
-    by-test : (t : Bool) → eqb x 1 ≡ t → (bit (pick_word t v 0) d ≡ 1) ↔ ((x ≡ 1) × (bit v d ≡ 1))
-    by-test true e = (λ b. (eqb-true x 1 e, b), λ h. h.1)
-    by-test false e = (λ b. absurd (omega (arith, bit_zero d)), λ h. absurd (eqb-false x 1 e h.0))
+    by_test : (t : Bool) → eqb x 1 ≡ t → (bit (pick_word t v 0) d ≡ 1) ↔ ((x ≡ 1) × (bit v d ≡ 1))
+    by_test true e = (λ b. (eqb-true x 1 e, b), λ h. h.1)
+    by_test false e = (λ b. absurd (omega (arith, bit_zero d)), λ h. absurd (eqb-false x 1 e h.0))
 
 module _ (W : ℕ) (ws : List ℕ) (w r2 d : ℕ) where
   -- entity d + 1 is in X.r2

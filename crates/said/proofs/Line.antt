@@ -18,8 +18,8 @@ module _ (rows : List Row) (Given : List ℕ → Type 0) where
         by (inl e) = refuses number place e refl
         by (inr e) = absurd (due_clear rest number place clear e.1)
 
-    pub line-given : {shown : List ℕ} → Clear (rows ++ rest) → Given shown → LineBy rows Given shown
-    line-given c g = gives (clear_first rows rest c) g
+    pub line_given : {shown : List ℕ} → Clear (rows ++ rest) → Given shown → LineBy rows Given shown
+    line_given c g = gives (clear_first rows rest c) g
 
   -- where each row applies at one place at most, and two given lines are equal, there is one line
   pub one_line : AllOnePlace rows → ((one two : List ℕ) → Given one → Given two → one ≡ two)

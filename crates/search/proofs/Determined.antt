@@ -1,6 +1,6 @@
 -- The promise of the search determines everything but which lines a written slip has and how many.
 -- Two calls that keep it are taken apart side by side: both are refused, or both are answered with the same word.
-use Prim.Native.Nat.{ℕ, zero, suc, ◌-◌, ◌*◌, ◌≤◌, max}
+use Prim.Native.Nat.{ℕ, zero, suc, ◌*◌, ◌≤◌, max}
 use mathlib.Core.Path.{◌≡◌, refl, sym, ap, ◌∙◌}
 use mathlib.Core.Logic.{⊎_elim}
 use mathlib.Core.List.{List}

@@ -20,7 +20,7 @@ use Rattle.rt0.proofs.Bits.{bit_zero}
 use Rattle.rt0.proofs.Tables.{rounds_member}
 use Rattle.rt0.proofs.Shown.{times_shows}
 use Rattle.rt0.proofs.Words.{none_length, none_at}
-use Rattle.rt0.proofs.Bounds.{slip-most}
+use Rattle.rt0.proofs.Bounds.{slip_most}
 use Rattle.rt0.proofs.SlipBytes.{length_lines_of}
 use Rattle.bundle.specs.declared.read.Sizes.{Sizes}
 use Rattle.bundle.specs.declared.question.Question.{Question}
@@ -33,7 +33,7 @@ use Rattle.words.specs.Sizes.{most_entities, width, table_words, fact_count}
 use Rattle.premises.specs.Fact.{fact_number, HasLine, HasFact, Backed}
 use Rattle.ledger.specs.Ledger.{Extended}
 use Rattle.words.specs.Step.{Steps}
-use Rattle.tables.proofs.Rounds.{all-stepped, steps-there}
+use Rattle.tables.proofs.Rounds.{all_stepped, steps_there}
 use Rattle.ledger.specs.Writing.{sizes_with, Writing, HasSteps, NoneOrLast, Unsaid, Finished}
 use Rattle.search.specs.Written.{Written}
 use Rattle.premises.proofs.Facts.{number_within, number_fact, number_holds}
@@ -126,7 +126,7 @@ module _ (bytes : List ℕ) (s : Sizes) (q : Question) (asked : Asked bytes s q)
   ready slip goal rounds g room least m w lent = (
     writing_none bytes s.entities slip said_so room,
     contents.records,
-    record { enough = rw contents.records at (steps-there bytes accepts w lent); stepped = rw contents.records at (all-stepped bytes accepts w lent) },
+    record { enough = rw contents.records at (steps_there bytes accepts w lent); stepped = rw contents.records at (all_stepped bytes accepts w lent) },
     record { inside = rw g (number_within (role_asked q) q.person within.0 within.1); none = none_at fact_count goal },
     rw g (number_holds (times_words s.entities width (held bytes) rounds (none_words table_words)) (role_asked q) q.person within.0 within.1
         (reached rounds least m)),
@@ -155,6 +155,6 @@ module _ (bytes : List ℕ) (s : Sizes) (q : Question) (asked : Asked bytes s q)
 
       most : (1 ≤ n) × (n ≤ slip_lines)
       most =
-          let slip-length = slip-most s.entities width (held_entities bytes accepts) (held bytes) (held_valid bytes accepts) (book_in bytes)
+          let slip_length = slip_most s.entities width (held_entities bytes accepts) (held bytes) (held_valid bytes accepts) (book_in bytes)
           sound.numbered sound.few _ (role_asked q) q.person right once in
-          rw length_lines_of at slip-length
+          rw length_lines_of at slip_length

@@ -64,7 +64,7 @@ module _ (m k : ℕ) (few : (n : ℕ) → n < m → length (decimal n) ≤ k) wh
 
 -- The line of a valid credential.
 
-module _ (E R : ℕ) (few-entities : E < 100) (few_names : R < 100) where
+module _ (E R : ℕ) (few_entities : E < 100) (few_names : R < 100) where
   valid_role_lem : (ρ : Role) → ValidRole E R ρ → BelowRole 100 ρ
   valid_role_lem (A · r) (a, n) = (omega arith, omega arith)
 

@@ -37,13 +37,13 @@ use Rattle.storage.proofs.Said.{record_said}
 -- ---- the shelves of a credential are one word
 
 held_same : (T : Types) (c : Credential) (v w : ℕ) → HeldOn T c v → HeldOn T c w → v ≡ w
-held_same T c v w h k = bits_same most_entities v w h.small k.small at-bit
+held_same T c v w h k = bits_same most_entities v w h.small k.small at_bit
   where
     at : (A : ℕ) → IsEntity most_entities A → (bit v (A - 1) ≡ 1) ↔ (bit w (A - 1) ≡ 1)
     at A a = (λ b. (k.each A a).1 ((h.each A a).0 b), λ b. (h.each A a).1 ((k.each A a).0 b))
 
-    at-bit : (d : ℕ) → d < most_entities → (bit v d ≡ 1) ↔ (bit w d ≡ 1)
-    at-bit d l = rw (sub-one (suc d)) at (at (suc d) (omega arith))
+    at_bit : (d : ℕ) → d < most_entities → (bit v d ≡ 1) ↔ (bit w d ≡ 1)
+    at_bit d l = rw (sub-one (suc d)) at (at (suc d) (omega arith))
 
 -- what is said of a credential is one answer
 said_same : (T : Types) (c : Credential) (one two : Storage) → SaidOf T c one → SaidOf T c two → one ≡ two
@@ -78,8 +78,8 @@ module _ (bundle sheet : List ℕ) (n : ℕ) where
           let R : s.names ≡ names_of bundle = cc h.said in
           clash_flag (tells.1 (rw R r)) w
 
-      sheet-clear : found ≡ true → Applies (sheet_row (names_of bundle) sheet) → ⊥
-      sheet-clear w (_, (_, wrong)) =
+      sheet_clear : found ≡ true → Applies (sheet_row (names_of bundle) sheet) → ⊥
+      sheet_clear w (_, (_, wrong)) =
           let R : s.names ≡ names_of bundle = cc h.said in
           wrong (rw R at (tells.0 w))
 
@@ -91,19 +91,19 @@ module _ (bundle sheet : List ℕ) (n : ℕ) where
       record_refused w o =
           let N : s.records ≡ records_of bundle = cc h.said in
           refused (due_later (reader_rows bundle) later 7 0 h.clear
-          (inr (sheet-clear w, inl (refl, (refl, (outside_tells (records_of bundle) n).0 (rw (← N) o)))))) tt
+          (inr (sheet_clear w, inl (refl, (refl, (outside_tells (records_of bundle) n).0 (rw (← N) o)))))) tt
 
       -- what is said of the record
-      pub record-answered : found ≡ true → outside s.records n ≡ false → (answer : Storage)
+      pub record_answered : found ≡ true → outside s.records n ≡ false → (answer : Storage)
           → answer ≡ stored_for (types_by sheet) (credential_of (record_of bundle n)) → StoragePromise bundle sheet n answer
-      record-answered w o answer e =
+      record_answered w o answer e =
           let N : s.records ≡ records_of bundle = cc h.said in
           let (low, high) = inside s.records n o in
           let said = record_said bundle sheet s h n low high answer e in
           let in_range : outside (records_of bundle) n ≡ false = rw (← N) o in
           by answer said
           (clear_both (reader_rows bundle) later h.clear
-          (sheet-clear w, (λ a. clash_flag ((outside_tells (records_of bundle) n).1 a.1.1) in_range, tt)))
+          (sheet_clear w, (λ a. clash_flag ((outside_tells (records_of bundle) n).1 a.1.1) in_range, tt)))
         where
           by : (a : Storage) → SaidOfRecord bundle sheet n a → Clear (storage_rows bundle sheet n) → StoragePromise bundle sheet n a
           by (Held shelves) said c = passed refl refl c said

@@ -80,10 +80,10 @@ module _ (T : Types) where
   head_held (variant.ThreeParts g ρ σ τ) h e = let same : g ≡ h = cc in rw same
   head_held variant.Nothing h e = cc
 
-  pub held_found : (k : Record) (h : Role) (s : Sides) (one subjects by-issuer by-subjects : ℕ) → head_of k ≡ Of h → s ≡ sides_of (T h.name)
-      → one ≡ single_of h.entity → subjects ≡ subjects_for (credential_of k) → by-issuer ≡ pick_word (s.def || s.all) one 0
-      → by-subjects ≡ pick_word s.subject subjects 0 → bit_or by-issuer by-subjects ≡ shelves_for T (credential_of k)
-  held_found k h s one subjects by-issuer by-subjects e sides o m i j = rw (i, j, o, m, sides) (head_held k h e)
+  pub held_found : (k : Record) (h : Role) (s : Sides) (one subjects by_issuer by_subjects : ℕ) → head_of k ≡ Of h → s ≡ sides_of (T h.name)
+      → one ≡ single_of h.entity → subjects ≡ subjects_for (credential_of k) → by_issuer ≡ pick_word (s.def || s.all) one 0
+      → by_subjects ≡ pick_word s.subject subjects 0 → bit_or by_issuer by_subjects ≡ shelves_for T (credential_of k)
+  held_found k h s one subjects by_issuer by_subjects e sides o m i j = rw (i, j, o, m, sides) (head_held k h e)
 
   -- what is said of it
   pub stored_held : (k l : Record) (found : Bool) (shelves : ℕ) → k ≡ l → found ≡ structurally_for T (credential_of k) → found ≡ true

@@ -14,7 +14,7 @@ use Rattle.rt0.specs.Credential.{Role, ◌·◌, IsEntity, IsName}
 use Rattle.rt0.specs.Completion.{Shelf, is_absent, Open, some_absent, open_with}
 use Rattle.rt0.specs.Word.{bit, bits_below, none_words, open_within, open_words}
 use Rattle.rt0.proofs.Bits.{bit_zero}
-use Rattle.rt0.proofs.BitsBelow.{bits_told, bits-one, bits-other}
+use Rattle.rt0.proofs.BitsBelow.{bits_told, bits_one, bits_other}
 use Rattle.base.proofs.Flags.{or_false, or_true, and_right}
 use Rattle.bundle.specs.Held.{shelves, open_of}
 use Rattle.tables.specs.Open.{names_in, open_names, open_in, nothing_open, absent_word, opened_roles}
@@ -136,11 +136,11 @@ module _ (bytes : List ℕ) where
 module _ (bytes : List ℕ) (n word : ℕ) (e : word ≡ absent_word bytes n) (absent : Bool) (q : absent ≡ is_absent (shelves bytes (n + 1))) where
   pub absent_more : n < 32 → absent ≡ true → bit_or word (1 * 2 ^ n % 2 ^ 32) ≡ absent_word bytes (n + 1)
   unfolding absent_word
-  absent_more l t = bits-one _ n word e 32 l (rw add-one at (sym q ∙ t))
+  absent_more l t = bits_one _ n word e 32 l (rw add-one at (sym q ∙ t))
 
   pub absent_other : absent ≡ false → word ≡ absent_word bytes (n + 1)
   unfolding absent_word
-  absent_other t = bits-other _ n word e (rw add-one at (sym q ∙ t))
+  absent_other t = bits_other _ n word e (rw add-one at (sym q ∙ t))
 
 -- the value of the word, where it is 0 and where it is not
 module _ (bytes : List ℕ) (E names word : ℕ) (e : word ≡ absent_word bytes E) where

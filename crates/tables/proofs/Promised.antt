@@ -1,6 +1,6 @@
 -- From the tables at rest to the promise: what they show, how many rounds there were, what is left of the lent words, and the order of
 -- the refusals.
-use Prim.Native.Nat.{ℕ, ◌-◌, ◌+◌, ◌*◌, ◌^◌, ◌<◌, ◌≤◌, min}
+use Prim.Native.Nat.{ℕ, ◌*◌, ◌^◌, ◌<◌, ◌≤◌, min}
 use native.Mathlib.Omega.{arith}
 use mathlib.Core.Path.{◌≡◌, refl, sym, ap, subst}
 use mathlib.Core.Bool.{Bool, true, false, ◌&&◌, true≢false}
@@ -152,8 +152,8 @@ module _ (bytes : List ℕ) (before : Tables) where
       (record { sizes = refl; rounds = refl; untouched = refl })
 
   module _ {s : Sizes} (h : Accepts bytes s) where
-    pub refused-short : (is_open : Open) → tables_wrong before ≡ true → TablesWith is_open bytes before before (Refused 8 0)
-    refused-short is_open w =
+    pub refused_short : (is_open : Open) → tables_wrong before ≡ true → TablesWith is_open bytes before before (Refused 8 0)
+    refused_short is_open w =
         refused (due_later (reader_rows bytes) (short_row before ∷ []) 8 0 h.clear (inl (refl, (refl, (short_tells before).0 w))))
         (record { sizes = refl; rounds = refl; untouched = refl })
 

@@ -5,7 +5,7 @@ use native.Mathlib.Nat.{le_refl}
 use native.Mathlib.Numerals.{add-one}
 use native.Mathlib.Omega.{arith}
 use mathlib.Core.Path.{◌≡◌, refl, ap, ◌∙◌}
-use mathlib.Core.Option.{Option, some, none-ne-some, some-injective}
+use mathlib.Core.Option.{some, none-ne-some, some-injective}
 use mathlib.Core.List.{List, [], ◌∷◌, ◌++◌}
 use lib.ListN.{length, take, get_or, get_elem?}
 use lib.Seq.{take_all}
@@ -20,7 +20,7 @@ use Rattle.bundle.specs.Layout.{records_of}
 use Rattle.bundle.proofs.Accepted.{accepted_contents, length_credentials}
 use Rattle.words.specs.Sizes.{width, table_words}
 use Rattle.words.specs.Give.{use_record}
-use Rattle.words.proofs.Given.{use-valid}
+use Rattle.words.proofs.Given.{use_valid}
 use Rattle.words.specs.Step.{head_in, Steps, Stepped, use_step, use_steps}
 use Rattle.words.proofs.Stepped.{step_place, step_use}
 use Rattle.tables.proofs.Held.{held_entities, held_record, held_place}
@@ -51,7 +51,7 @@ module _ (bytes : List ℕ) {s : Sizes} (h : Accepts bytes s) (ws : List ℕ) wh
   round_more {to} {i = i} l t a =
       let k = held_record bytes h (suc i) (omega arith) l in
       rw (add-one, round_item s.entities (held bytes) i k.credential ws k.numbered, ← t)
-      (rw add-one at a ∙ use-valid (held_entities bytes h) ws to (record_of bytes (suc i)) k.credential k.read k.valid)
+      (rw add-one at a ∙ use_valid (held_entities bytes h) ws to (record_of bytes (suc i)) k.credential k.read k.valid)
 
   -- all records
   pub round_all : (i : ℕ) {to : List ℕ} → s.records ≤ i → to ≡ round_to s.entities (held bytes) i ws
@@ -62,29 +62,29 @@ module _ (bytes : List ℕ) {s : Sizes} (h : Accepts bytes s) (ws : List ℕ) wh
 module _ (bytes : List ℕ) {s : Sizes} (h : Accepts bytes s) where
   -- the steps that were written, where 240 were lent
   module _ {before steps : List ℕ} (w : Steps bytes before steps) (e : length before ≡ 240) where
-    pub all-stepped : Stepped bytes s.records steps
-    all-stepped m l = w.stepped m (omega (arith, (accepted_contents bytes s h).records_most))
+    pub all_stepped : Stepped bytes s.records steps
+    all_stepped m l = w.stepped m (omega (arith, (accepted_contents bytes s h).records_most))
 
-    pub steps-there : s.records ≤ length steps
-    steps-there = omega (arith, w.size, (accepted_contents bytes s h).records_most)
+    pub steps_there : s.records ≤ length steps
+    steps_there = omega (arith, w.size, (accepted_contents bytes s h).records_most)
 
   module _ (steps : List ℕ) (t : Stepped bytes s.records steps) where
     -- the heads of the steps have words
-    pub heads-there : (m : ℕ) → m < s.records → head_in (get_or steps m 0) < table_words
-    heads-there m l = rw (t m l, step_place (record_of bytes (suc m))) (held_place bytes h (suc m) (omega arith) l)
+    pub heads_there : (m : ℕ) → m < s.records → head_in (get_or steps m 0) < table_words
+    heads_there m l = rw (t m l, step_place (record_of bytes (suc m))) (held_place bytes h (suc m) (omega arith) l)
 
     -- one use of each step is a round
     module _ (ws : List ℕ) (size : length ws ≡ table_words) where
-      steps-to : (n : ℕ) → n ≤ s.records → use_steps s.entities steps ws ws n ≡ round_to s.entities (held bytes) n ws
+      steps_to : (n : ℕ) → n ≤ s.records → use_steps s.entities steps ws ws n ≡ round_to s.entities (held bytes) n ws
       unfolding use_steps
-      steps-to zero l = round_none s.entities (held bytes) ws
-      steps-to (suc n) l =
+      steps_to zero l = round_none s.entities (held bytes) ws
+      steps_to (suc n) l =
           let now = use_steps s.entities steps ws ws n in
           let step : use_step s.entities ws now (get_or steps n 0) ≡ use_record s.entities ws now (record_of bytes (n + 1)) =
           rw (t n l, add-one) (step_use s.entities ws (omega arith) now (record_of bytes (suc n))) in
-          rw add-one at (round_more bytes h ws l (steps-to n (omega arith)) step)
+          rw add-one at (round_more bytes h ws l (steps_to n (omega arith)) step)
 
-      pub steps-round : {to after : List ℕ} → ws ≡ to → after ≡ use_steps s.entities steps ws to s.records
+      pub steps_round : {to after : List ℕ} → ws ≡ to → after ≡ use_steps s.entities steps ws to s.records
           → after ≡ round_words s.entities width (held bytes) ws
-      steps-round e made =
-          round_all bytes h ws s.records (le_refl s.records) (made ∙ rw (← e) (steps-to s.records (le_refl s.records)))
+      steps_round e made =
+          round_all bytes h ws s.records (le_refl s.records) (made ∙ rw (← e) (steps_to s.records (le_refl s.records)))

@@ -23,7 +23,7 @@ use Rattle.words.specs.Sizes.{most_entities, width}
 use Rattle.tables.specs.Rest.{AtRest}
 use Rattle.words.specs.Step.{Stepped, use_steps}
 use Rattle.tables.proofs.Held.{held_names}
-use Rattle.tables.proofs.Rounds.{steps-round}
+use Rattle.tables.proofs.Rounds.{steps_round}
 
 -- n rounds from the words start lead to the words ws, and each of them changed something
 pub record Going (E : ℕ) (cs : List Credential) (start : List ℕ) (n : ℕ) (ws : List ℕ) : Type 0 where
@@ -42,11 +42,11 @@ module _ (bytes : List ℕ) {s : Sizes} (h : Accepts bytes s) {start : List ℕ}
   contents = accepted_contents bytes s h
 
   module _ {n : ℕ} {ws : List ℕ} (g : Going s.entities cs start n ws) where
-    going-fits : Fits s.entities most_entities width ws
-    going-fits = rw g.reached (times_fits s.entities s.names most_entities width contents.entities_most (held_names bytes h) cs contents.valid n start f)
+    going_fits : Fits s.entities most_entities width ws
+    going_fits = rw g.reached (times_fits s.entities s.names most_entities width contents.entities_most (held_names bytes h) cs contents.valid n start f)
 
-    pub going-few : n ≤ most_rounds
-    going-few =
+    pub going_few : n ≤ most_rounds
+    going_few =
         let few : n ≤ s.entities * length (distinct_heads cs) =
         moving_few s.entities s.names most_entities width contents.entities_most (held_names bytes h) cs contents.valid start f n g.moving in
         let heads : length (distinct_heads cs) ≤ 240 = omega (arith, heads_few (holding_sound bytes s h).numbered, (holding_sound bytes s h).few) in
@@ -55,7 +55,7 @@ module _ (bytes : List ℕ) {s : Sizes} (h : Accepts bytes s) {start : List ℕ}
     -- one round more, from a copy of the words, by the steps
     module _ (steps : List ℕ) (t : Stepped bytes s.records steps) {from after : List ℕ} (copied : from ≡ ws) (used : after ≡ use_steps s.entities steps from ws s.records) where
       made : after ≡ round_words s.entities width cs from
-      made = steps-round bytes h steps t from (rw copied going-fits.size) copied used
+      made = steps_round bytes h steps t from (rw copied going_fits.size) copied used
 
       next : after ≡ times_words s.entities width cs (suc n) start
       unfolding times_words
@@ -69,7 +69,7 @@ module _ (bytes : List ℕ) {s : Sizes} (h : Accepts bytes s) {start : List ℕ}
 
       pub going_less : (from ≡ after → ⊥) → room s.entities width cs after < room s.entities width cs ws
       going_less changed =
-          rw (made, copied) (room_falls s.entities s.names most_entities width contents.entities_most (held_names bytes h) cs contents.valid ws going-fits
+          rw (made, copied) (room_falls s.entities s.names most_entities width contents.entities_most (held_names bytes h) cs contents.valid ws going_fits
           (λ e. changed (copied ∙ sym e ∙ rw (← copied) (sym made))))
 
       pub at_rest : from ≡ after → AtRest s.entities cs start n after
@@ -77,6 +77,6 @@ module _ (bytes : List ℕ) {s : Sizes} (h : Accepts bytes s) {start : List ℕ}
           let rest : after ≡ ws = sym same ∙ copied in
           record {
             settled = record { reached = rest ∙ g.reached; still = rw (← same) (sym made ∙ sym same); moving = g.moving };
-            most = going-few;
-            fits = rw rest going-fits;
+            most = going_few;
+            fits = rw rest going_fits;
           }

@@ -8,7 +8,7 @@ use mathlib.Core.List.{List}
 use lib.Bits.{bit_or}
 use lib.Dec.{eqb}
 use Rattle.rt0.specs.Credential.{◌·◌, IsName}
-use Rattle.rt0.proofs.BitsBelow.{bits_told, bits-one, bits-other}
+use Rattle.rt0.proofs.BitsBelow.{bits_told, bits_one, bits_other}
 use Rattle.bundle.specs.Edition.{most_names}
 use Rattle.bundle.specs.Layout.{sizes_in}
 use Rattle.bundle.specs.Rows.{Accepts}
@@ -36,8 +36,8 @@ module _ (sheet : List ℕ) where
 module _ (sheet : List ℕ) (k word code : ℕ) (e : word ≡ loose_word sheet k) (is : code ≡ code_of sheet (k + 1)) where
   pub loose_one : k < most_names → (eqb code 1 || eqb code 2) ≡ true → bit_or word (1 * 2 ^ k % 2 ^ 32) ≡ loose_word sheet (k + 1)
   unfolding loose_word
-  loose_one l h = bits-one _ k word e 32 l (rw (is, add-one) at h)
+  loose_one l h = bits_one _ k word e 32 l (rw (is, add-one) at h)
 
   pub loose_other : (eqb code 1 || eqb code 2) ≡ false → word ≡ loose_word sheet (k + 1)
   unfolding loose_word
-  loose_other h = bits-other _ k word e (rw (is, add-one) at h)
+  loose_other h = bits_other _ k word e (rw (is, add-one) at h)

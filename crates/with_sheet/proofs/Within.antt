@@ -47,9 +47,9 @@ module _ (bytes : List ℕ) (is_open other : Open) (agree : Agree bytes is_open 
     filled_within f =
         record { rounds = f.rounds; few_rounds = f.few_rounds; sure = f.sure; possible = possible_within f.possible }
 
-    answered-within : {q : Question} {before after : Lent} {o : Outcome} → AnsweredWith (holding_with is_open bytes) q before after o
+    answered_within : {q : Question} {before after : Lent} {o : Outcome} → AnsweredWith (holding_with is_open bytes) q before after o
         → AnsweredWith (holding_with other bytes) q before after o
-    answered-within a =
+    answered_within a =
         record {
           word = a.word;
           answers = answers_within (entities_of bytes) (names_of bytes) is_open other (agree clear) (held bytes) _ _ a.word a.answers;
@@ -70,4 +70,4 @@ module _ (bytes : List ℕ) (is_open other : Open) (agree : Agree bytes is_open 
       → PromiseWith other bytes q before after o
   promise_within q before after o (refused d k) = refused d k
   promise_within q before after o (passed z p c g) =
-      passed z p c (answered-within (clear_first (reader_rows bytes) (question_row bytes q ∷ lent_row before ∷ []) c) g)
+      passed z p c (answered_within (clear_first (reader_rows bytes) (question_row bytes q ∷ lent_row before ∷ []) c) g)

@@ -90,30 +90,30 @@ module _ {E : ℕ} (e : E ≤ most_entities) where
     abbrev Gives : Record → Credential → Type 0
     Gives k c = Valid E width c → give_of E ws k ≡ give_word E width ws c
 
-    link-form : (h : Role) (r1 r2 : ℕ) → Gives (variant.Link h r1 r2) (role_of h ⟵ link r1 r2)
+    link_form : (h : Role) (r1 r2 : ℕ) → Gives (variant.Link h r1 r2) (role_of h ⟵ link r1 r2)
     unfolding give_of give_word
-    link-form h r1 r2 v =
+    link_form h r1 r2 v =
         let least : min E most_entities ≡ E = omega arith in
         let (entity, name) = wide (h.entity · r1) (v.0.0, v.1.0) in
         rw (least, word_valid ws (h.entity · r1) (entity, name), link_valid ws (word_at width ws (h.entity · r1)) r2 v.1.1 E e)
 
-    pub give-valid : (k : Record) (c : Credential) → credential_of k ≡ some c → Valid E width c → give_of E ws k ≡ give_word E width ws c
+    pub give_valid : (k : Record) (c : Credential) → credential_of k ≡ some c → Valid E width c → give_of E ws k ≡ give_word E width ws c
     unfolding give_of give_word single_of meet_word
-    give-valid (variant.Entity h B) c q = subst (Gives (variant.Entity h B)) (some-injective _ c q)
+    give_valid (variant.Entity h B) c q = subst (Gives (variant.Entity h B)) (some-injective _ c q)
         (λ v. rw (inside_flag most_entities B v.1.above (omega arith)))
-    give-valid (variant.Role h ρ) c q = subst (Gives (variant.Role h ρ)) (some-injective _ c q) (λ v. part ρ v.1)
-    give-valid (variant.Link h r1 r2) c q = subst (Gives (variant.Link h r1 r2)) (some-injective _ c q) (link-form h r1 r2)
-    give-valid (variant.TwoParts h ρ σ) c q = subst (Gives (variant.TwoParts h ρ σ)) (some-injective _ c q) (λ v.
+    give_valid (variant.Role h ρ) c q = subst (Gives (variant.Role h ρ)) (some-injective _ c q) (λ v. part ρ v.1)
+    give_valid (variant.Link h r1 r2) c q = subst (Gives (variant.Link h r1 r2)) (some-injective _ c q) (link_form h r1 r2)
+    give_valid (variant.TwoParts h ρ σ) c q = subst (Gives (variant.TwoParts h ρ σ)) (some-injective _ c q) (λ v.
         rw (part ρ (v.1.2 (role_of ρ) (Memᴰ.head refl)), part σ (v.1.2 (role_of σ) (Memᴰ.tail (Memᴰ.head refl)))))
-    give-valid (variant.ThreeParts h ρ σ τ) c q = subst (Gives (variant.ThreeParts h ρ σ τ)) (some-injective _ c q) (λ v.
+    give_valid (variant.ThreeParts h ρ σ τ) c q = subst (Gives (variant.ThreeParts h ρ σ τ)) (some-injective _ c q) (λ v.
         rw (
           part ρ (v.1.2 (role_of ρ) (Memᴰ.head refl)),
           part σ (v.1.2 (role_of σ) (Memᴰ.tail (Memᴰ.head refl))),
           part τ (v.1.2 (role_of τ) (Memᴰ.tail (Memᴰ.tail (Memᴰ.head refl)))),
         ))
-    give-valid variant.Nothing c q = absurd (none-ne-some c q)
+    give_valid variant.Nothing c q = absurd (none-ne-some c q)
 
-    pub use-valid : (acc : List ℕ) (k : Record) (c : Credential) → credential_of k ≡ some c → Valid E width c
+    pub use_valid : (acc : List ℕ) (k : Record) (c : Credential) → credential_of k ≡ some c → Valid E width c
         → use_record E ws acc k ≡ use_word E width ws acc c
     unfolding use_word
-    use-valid acc k c q v = rw (head_valid k c q v, give-valid k c q v)
+    use_valid acc k c q v = rw (head_valid k c q v, give_valid k c q v)

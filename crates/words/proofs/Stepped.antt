@@ -72,11 +72,11 @@ single_among B = among_same most_entities B single_of (λ out. rw out)
 
 outside_name : (A r : ℕ) → outside width r ≡ true → outside_tables A r ≡ true
 unfolding outside_tables
-outside_name A r out = rw out (or-last (outside most_entities A))
+outside_name A r out = rw out (or_last (outside most_entities A))
   where
-    or-last : (b : Bool) → (b || true) ≡ true
-    or-last true = refl
-    or-last false = refl
+    or_last : (b : Bool) → (b || true) ≡ true
+    or_last true = refl
+    or_last false = refl
 
 word_among : (ws : List ℕ) (A r : ℕ) → word_of ws A (among width r) ≡ word_of ws A r
 unfolding word_of

@@ -15,20 +15,20 @@ module _ (edition E R N : ℕ) (marks : List ℕ) (i : ℕ) where
   pub given_edition : i ≡ 0 → edition ≡ given_byte edition E R N marks i
   given_edition e = rw e
 
-  module _ (zero-no : i ≡ 0 → ⊥) where
-    pub given-entities : i ≡ 1 → E ≡ given_byte edition E R N marks i
-    given-entities e = rw e
+  module _ (zero_no : i ≡ 0 → ⊥) where
+    pub given_entities : i ≡ 1 → E ≡ given_byte edition E R N marks i
+    given_entities e = rw e
 
-    module _ (one-no : i ≡ 1 → ⊥) where
-      pub given-names : i ≡ 2 → R ≡ given_byte edition E R N marks i
-      given-names e = rw e
+    module _ (one_no : i ≡ 1 → ⊥) where
+      pub given_names : i ≡ 2 → R ≡ given_byte edition E R N marks i
+      given_names e = rw e
 
-      module _ (two-no : i ≡ 2 → ⊥) where
-        pub given-count : i ≡ 3 → N ≡ given_byte edition E R N marks i
-        given-count e = rw e
+      module _ (two_no : i ≡ 2 → ⊥) where
+        pub given_count : i ≡ 3 → N ≡ given_byte edition E R N marks i
+        given_count e = rw e
 
-        pub given-mark : (i ≡ 3 → ⊥) → (r : ℕ) → r ≡ byte_at marks (i - 4) → r ≡ given_byte edition E R N marks i
-        given-mark three-no r e = rw (ne_eqb i 0 zero-no, ne_eqb i 1 one-no, ne_eqb i 2 two-no, ne_eqb i 3 three-no) e
+        pub given_mark : (i ≡ 3 → ⊥) → (r : ℕ) → r ≡ byte_at marks (i - 4) → r ≡ given_byte edition E R N marks i
+        given_mark three_no r e = rw (ne_eqb i 0 zero_no, ne_eqb i 1 one_no, ne_eqb i 2 two_no, ne_eqb i 3 three_no) e
 
 -- a record block of a list
 module _ (list : List ℕ) (j i r : ℕ) where

@@ -15,7 +15,7 @@ use Rattle.content.specs.InPlace.{replaced, sealed_at, Filled, placed, PutBlock,
 use Rattle.content.proofs.Sealed.{length_sealed}
 use Rattle.content.proofs.Written.{length_replaced, replaced_here, replaced_else, part_replaced, Begun, begun_none, begun_more, begun_done}
 use Rattle.content.proofs.Appending.{put_last}
-use Rattle.content.proofs.Listed.{count_given, first_given, block-given}
+use Rattle.content.proofs.Listed.{count_given, first_given, block_given}
 
 module _ (E R : ℕ) (marks list before : List ℕ) where
   -- block 0
@@ -33,7 +33,7 @@ module _ (E R : ℕ) (marks list before : List ℕ) where
   fill_more j middle after whole room h e =
       let next : j + 1 ≡ suc j = omega arith in
       begun_more (content_from E R marks list) before (j + 1) middle after h room
-      (e ∙ ap (λ (x : List ℕ). replaced middle (j + 1) x) (block-given E R marks list whole j ∙ rw next refl))
+      (e ∙ ap (λ (x : List ℕ). replaced middle (j + 1) x) (block_given E R marks list whole j ∙ rw next refl))
 
 -- the buffer after block 0 has its length
 pub first_size : (before first : List ℕ) (f : ℕ → ℕ) → 512 ≤ length before → first ≡ sealed_block f → length (first ++ drop 512 before) ≡ length before

@@ -94,8 +94,8 @@ module _ (E R : ℕ) (list : List ℕ) where
       ),
     )
 
-    list-due : Due (list_rows E R list) (kind_number (mistake_kind E R (listed list i))) (i + 1)
-    list-due = match_due (i + 1) (mistake_rows E R (listed list i)) (list_rows E R list) _ 0 same_rows (wrong_due E R (listed list i) l.holds)
+    list_due : Due (list_rows E R list) (kind_number (mistake_kind E R (listed list i))) (i + 1)
+    list_due = match_due (i + 1) (mistake_rows E R (listed list i)) (list_rows E R list) _ 0 same_rows (wrong_due E R (listed list i) l.holds)
 
   -- no record is wrong
   none : Missed wrong (whole_records list) → (k : ℕ) → Applies (row (61 + k) (FromOne (LowestListed E R list k))) → ⊥
@@ -108,7 +108,7 @@ module _ (E R : ℕ) (list : List ℕ) where
   clear_list c = by (dec_lt (lowest wrong (whole_records list)) (whole_records list))
     where
       by : Dec (lowest wrong (whole_records list) < whole_records list) → Missed wrong (whole_records list)
-      by (yes l) = absurd (due_clear (list_rows E R list) _ _ c (list-due _ (lowest_there wrong (whole_records list) l)))
+      by (yes l) = absurd (due_clear (list_rows E R list) _ _ c (list_due _ (lowest_there wrong (whole_records list) l)))
       by (no l) = λ j b. (lowest_is wrong (whole_records list)).missed j (omega arith)
 
   pub list_places : AllOnePlace (list_rows E R list)
@@ -125,7 +125,7 @@ module _ (E R : ℕ) (list : List ℕ) where
       → number ≡ kind_number (mistake_kind E R (listed list i)) → FlawOf E R list (record { number = number; place = i + 1 })
   list_flaw i number e l f =
       let there : LowestBelow wrong (whole_records list) i = rw e (lowest_there wrong (whole_records list) (rw (← e) l)) in
-      refused (rw f (list-due i there)) tt
+      refused (rw f (list_due i there)) tt
 
   pub list_right : (i : ℕ) → i ≡ lowest wrong (whole_records list) → whole_records list ≤ i → FlawOf E R list (record { number = 0; place = 0 })
   list_right i e l = passed refl refl (list_clear (λ j b. (lowest_is wrong (whole_records list)).missed j (omega (arith, e)))) tt
@@ -154,13 +154,13 @@ module _ (E R : ℕ) (marks list : List ℕ) (size : ℕ) where
   write_cut cut = refused (inl (refl, (refl, cut))) refl
 
   module _ (whole : length list % 12 ≡ 0) where
-    pub write-head : head_wrong E R marks ≡ true → JudgedAs (write_rows E R marks list size) (Refused 3 0) (512 * blocks_for (whole_records list))
-    write-head h = refused (inr (λ (_, (_, cut)). cut whole, inl (refl, (refl, (head_tells E R marks).0 h)))) refl
+    pub write_head : head_wrong E R marks ≡ true → JudgedAs (write_rows E R marks list size) (Refused 3 0) (512 * blocks_for (whole_records list))
+    write_head h = refused (inr (λ (_, (_, cut)). cut whole, inl (refl, (refl, (head_tells E R marks).0 h)))) refl
 
-    pub write-list : (r : Wrote) → head_wrong E R marks ≡ false
+    pub write_list : (r : Wrote) → head_wrong E R marks ≡ false
         → JudgedAs (list_rows E R list ++ room_rows (whole_records list) size) r (512 * blocks_for (whole_records list))
         → JudgedAs (write_rows E R marks list size) r (512 * blocks_for (whole_records list))
-    write-list r h j =
+    write_list r h j =
         judged_more _ _ (λ (_, (_, cut)). cut whole)
         (judged_more _ _ (λ (_, (_, w)). clash_flag ((head_tells E R marks).1 w) h) j)
 
@@ -246,10 +246,10 @@ module _ (buffer : List ℕ) (n : ℕ) (bytes : List ℕ) where
     pub append_read : (m number place : ℕ) → Reads front (reading.Refused number place) → JudgedAs (append_rows buffer n bytes) (Refused number place) m
     append_read m number place h = refused (inr (passes, due_first (reader_rows front) behind number place (reads_refused front number place h))) refl
 
-    pub append-record : (s : Sizes) (r : Wrote) → Accepts front s
+    pub append_record : (s : Sizes) (r : Wrote) → Accepts front s
         → JudgedAs (new_rows s.entities s.names s.records bytes ++ room_rows (s.records + 1) (length buffer)) r (512 * blocks_for (s.records + 1))
         → JudgedAs (append_rows buffer n bytes) r (512 * blocks_for (front_records buffer n + 1))
-    append-record s r a h =
+    append_record s r a h =
         judged_more _ _ passes
         (judged_behind (reader_rows front) _ a.clear
         (subst

@@ -1,5 +1,4 @@
 -- `block::check` meets its contract. The invariant: the two totals are those of the bytes passed, the second with 1 added, and small.
-use Prim.Native.Nat.{◌-◌}
 use native.Mathlib.Omega.{arith}
 use borrow.Author.Rules.{rules}
 use Rattle.block.proofs.Weighed.{running_none, totals_none, turned, check_done}

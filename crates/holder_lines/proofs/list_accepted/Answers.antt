@@ -1,7 +1,7 @@
 -- `holder_lines::list_accepted` meets its contract.
 use native.Mathlib.Omega.{arith}
 use Rattle.bundle.proofs.Accepted.{accepted_contents}
-use Rattle.holder_lines.proofs.Promised.{sheet_refused, short_refused, text-given}
+use Rattle.holder_lines.proofs.Promised.{sheet_refused, short_refused, text_given}
 use Rattle.holder_lines.proofs.list_accepted.Goals as goal
 
 pub returns-then-not-right : goal.returns-then-not-right
@@ -23,5 +23,5 @@ write_lines-requires c =
 pub returns : goal.returns
 returns c =
     let args = c.args in
-    text-given args.bundle.now args.sheet.now args.text.now args.sizes c.requires _ c.right.ensures
+    text_given args.bundle.now args.sheet.now args.text.now args.sizes c.requires _ c.right.ensures
     (c.if-not-right.false) (omega (arith, c.if-text-lt-BYTES.false)) c.write_lines.ensures

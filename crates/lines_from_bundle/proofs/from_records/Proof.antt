@@ -2,7 +2,7 @@
 use native.Mathlib.Omega.{arith}
 use borrow.Author.Rules.{rules}
 use Rattle.bundle.proofs.Accepted.{accepted_contents}
-use Rattle.lines_from_bundle.proofs.Prints.{sizes_small, gathered-inside, bundle-lines}
+use Rattle.lines_from_bundle.proofs.Prints.{sizes_small, gathered_inside, bundle_lines}
 use Rattle.lines_from_bundle.proofs.from_records.Statement.{statement}
 use Rattle.lines_from_bundle.proofs.from_records.Tie as tie
 
@@ -19,7 +19,7 @@ write-front-requires : tie.Need-write-front-requires
 write-front-requires c κs =
     let start = c.before.before.before.before.before.before.before.before.before.before.before in
     let args = start.args in
-    gathered-inside args.bundle.now args.sizes start.requires.0 args.records.now _ _ start.requires.1 c.before.before.before.before.gather.ensures
+    gathered_inside args.bundle.now args.sizes start.requires.0 args.records.now _ _ start.requires.1 c.before.before.before.before.gather.ensures
 
 same_length : tie.Need-same-length
 same_length c = search rules
@@ -31,7 +31,7 @@ returns : tie.Need-returns
 returns c =
     let start = c.before.before.before.before.before.before.before.before.before.before.before.before.before.before in
     let args = start.args in
-    bundle-lines args.bundle.now args.sizes start.requires.0 args.records.now _ _ start.requires.1 c.before.before.before.before.before.before.before.gather.ensures args.text.now _ _
+    bundle_lines args.bundle.now args.sizes start.requires.0 args.records.now _ _ start.requires.1 c.before.before.before.before.before.before.before.gather.ensures args.text.now _ _
     start.requires.2 c.before.before.write-front.ensures
 
 pub from-records-spec : {M : Type 1} → statement M

@@ -1,5 +1,4 @@
 -- `sheet::layout_wrong` meets its contract.
-use Prim.Native.Nat.{◌-◌}
 use mathlib.Core.Path.{sym, ◌∙◌}
 use borrow.Author.Rules.{rules}
 use Rattle.sheet.specs.Wrong.{layout_wrong}

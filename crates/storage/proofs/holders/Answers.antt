@@ -1,9 +1,8 @@
 -- `storage::holders` meets its contract.
 use mathlib.Core.Path.{sym, ◌∙◌}
 use native.Mathlib.Omega.{arith}
-use borrow.Author.Tests.{not-true, not-false}
 use Rattle.bundle.proofs.Refusals.{reads_accepted}
-use Rattle.storage.proofs.Refusals.{reader_refused, sheet_refused, record_refused, record-answered}
+use Rattle.storage.proofs.Refusals.{reader_refused, sheet_refused, record_refused, record_answered}
 use Rattle.storage.proofs.holders.Goals as goal
 
 pub returns-in-Refused : goal.returns-in-Refused
@@ -29,5 +28,5 @@ returns-then-no_record c =
 pub returns : goal.returns
 returns c =
     let args = c.args in
-    record-answered args.bundle.now args.sheet.now args.number _ (reads_accepted _ _ (rw c.in-Accepted.is at c.read-reading.ensures)) _ c.right-sheet_right.ensures
+    record_answered args.bundle.now args.sheet.now args.number _ (reads_accepted _ _ (rw c.in-Accepted.is at c.read-reading.ensures)) _ c.right-sheet_right.ensures
     c.if-not-sheet_right.false (sym c.outside-no_record.ensures ∙ c.if-no_record.false) _ c.stored.ensures

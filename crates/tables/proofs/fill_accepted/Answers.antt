@@ -1,11 +1,11 @@
 -- `tables::fill_accepted` meets its contract.
 use Rattle.tables.proofs.Held.{held_entities}
-use Rattle.tables.proofs.Promised.{tables_enough, both_left, refused-short}
+use Rattle.tables.proofs.Promised.{tables_enough, both_left, refused_short}
 use borrow.Author.Rules.{rules}
 use Rattle.tables.proofs.fill_accepted.Goals as goal
 
 pub returns-then-sure-possible : goal.returns-then-sure-possible
-returns-then-sure-possible c = refused-short _ _ c.requires _ c.if-sure-possible.true
+returns-then-sure-possible c = refused_short _ _ c.requires _ c.if-sure-possible.true
 
 pub fill_table-rounds-requires : goal.fill_table-rounds-requires
 fill_table-rounds-requires c =

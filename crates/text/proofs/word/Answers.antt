@@ -1,7 +1,6 @@
 -- `text::word` meets its contract. The invariant: the letters passed are written.
 use native.Mathlib.Numerals.{add-one}
 use borrow.Author.Rules.{rules}
-use Prim.Native.Nat.{◌-◌}
 use lib.Seq.{take-suc, take_all}
 use Rattle.text.proofs.Written.{wrote_none, wrote_more, wrote_length}
 use Rattle.text.proofs.word.Goals as goal

@@ -1,7 +1,6 @@
 -- `with_sheet::loose_names` meets its contract. The invariant: the word is that of the first i names.
 use native.Mathlib.Omega.{arith}
 use borrow.Author.Rules.{rules}
-use Prim.Native.Nat.{◌-◌}
 use mathlib.Core.Path.{◌≡◌, ◌∙◌}
 use Rattle.rt0.proofs.BitsBelow.{bits_none}
 use Rattle.bundle.specs.Edition.{most_names}
@@ -20,8 +19,8 @@ loop-i-preserved c =
     let is = c.code_of-code.ensures.0 in (
       search rules,
       elim c.if-code.branch [
-        then-code w ↦ w.names-is ∙ loose_one _ _ _ _ e is (omega arith) w.if-code.true
-      | else-code w ↦ w.names-is ∙ loose_other _ _ _ _ e is w.if-code.false
+        | then-code w ↦ w.names-is ∙ loose_one _ _ _ _ e is (omega arith) w.if-code.true
+        | else-code w ↦ w.names-is ∙ loose_other _ _ _ _ e is w.if-code.false
       ],
     )
 

@@ -4,7 +4,6 @@ use borrow.Author.Rules.{rules}
 use native.Mathlib.Numerals.{add-one}
 use lib.Seq.{length-take-le, take-suc, take_all}
 use Rattle.answers.proofs.Text.{extends_none, extends_more}
-use Prim.Native.Nat.{◌-◌}
 use Rattle.answers.proofs.line.word.Goals as goal
 
 pub loop-i-init : goal.loop-i-init

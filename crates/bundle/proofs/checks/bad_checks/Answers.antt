@@ -1,10 +1,8 @@
 -- `bundle::checks::bad_checks` meets its contract. The invariant: the bits say of the first k blocks whether their checks differ.
 use native.Mathlib.Omega.{arith}
-use Prim.Native.Nat.{◌-◌}
 use mathlib.Core.Path.{◌≡◌, sym, ◌∙◌}
 use borrow.Author.Rules.{rules}
-use Rattle.bundle.specs.Layout.{bad_check}
-use Rattle.rt0.proofs.BitsBelow.{bits_none, bits-one, bits-other}
+use Rattle.rt0.proofs.BitsBelow.{bits_none, bits_one, bits_other}
 use Rattle.bundle.proofs.checks.bad_checks.Goals as goal
 use Rattle.bundle.proofs.checks.bad_checks.Goals.{then-bad_check, else-bad_check}
 
@@ -17,8 +15,8 @@ loop-k-preserved c =
     let told = sym c.bad_check.ensures in (
       search rules,
       elim c.if-bad_check.branch [
-        then-bad_check w ↦ w.word-is ∙ bits-one _ _ _ e 16 (omega arith) (told ∙ w.if-bad_check.true)
-      | else-bad_check w ↦ w.word-is ∙ bits-other _ _ _ e (told ∙ w.if-bad_check.false)
+        | then-bad_check w ↦ w.word-is ∙ bits_one _ _ _ e 16 (omega arith) (told ∙ w.if-bad_check.true)
+        | else-bad_check w ↦ w.word-is ∙ bits_other _ _ _ e (told ∙ w.if-bad_check.false)
       ],
     )
 

@@ -1,8 +1,7 @@
 -- `bundle::layout::beside_wrong` meets its contract.
-use Prim.Native.Nat.{◌-◌}
 use mathlib.Core.Path.{sym, ◌∙◌}
 use borrow.Author.Rules.{rules}
-use Rattle.bundle.specs.Layout.{beside_byte_wrong, beside_wrong}
+use Rattle.bundle.specs.Layout.{beside_wrong}
 use Rattle.base.proofs.Lowest.{missed_none, missed_more, any_hit, any_none}
 use Rattle.bundle.proofs.layout.beside_wrong.Goals as goal
 

@@ -1,8 +1,6 @@
 -- `bundle::layout::first_wrong` meets its contract.
-use Prim.Native.Nat.{◌-◌}
 use mathlib.Core.Path.{sym, ◌∙◌}
 use borrow.Author.Rules.{rules}
-use Rattle.bundle.specs.Layout.{first_byte_wrong}
 use Rattle.base.proofs.Lowest.{missed_none, missed_more, any_hit, any_none}
 use Rattle.bundle.proofs.Stages.{first_found}
 use Rattle.bundle.proofs.layout.first_wrong.Goals as goal

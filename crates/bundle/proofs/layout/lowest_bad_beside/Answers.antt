@@ -1,8 +1,6 @@
 -- `bundle::layout::lowest_bad_beside` meets its contract.
-use Prim.Native.Nat.{◌-◌}
 use mathlib.Core.Path.{sym, ◌∙◌}
 use borrow.Author.Rules.{rules}
-use Rattle.bundle.specs.Layout.{bad_beside}
 use Rattle.base.proofs.Lowest.{missed_none, missed_more, lowest_hit, lowest_none}
 use Rattle.bundle.proofs.layout.lowest_bad_beside.Goals as goal
 

@@ -1,8 +1,6 @@
 -- `bundle::stored::lowest_bad_record` meets its contract.
-use Prim.Native.Nat.{◌-◌}
 use mathlib.Core.Path.{sym, ◌∙◌}
 use borrow.Author.Rules.{rules}
-use Rattle.bundle.specs.Layout.{bad_record}
 use Rattle.base.proofs.Lowest.{missed_none, missed_more, lowest_hit, lowest_none}
 use Rattle.bundle.proofs.stored.lowest_bad_record.Goals as goal
 

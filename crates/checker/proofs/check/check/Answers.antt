@@ -4,7 +4,7 @@ use native.Mathlib.Omega.{arith}
 use Rattle.bundle.specs.Rows.{Accepts}
 use Rattle.bundle.specs.Question.{question}
 use Rattle.bundle.proofs.Refusals.{reads_accepted}
-use Rattle.checker.proofs.Refusals.{reader_refused, question-refused, slip-answered}
+use Rattle.checker.proofs.Refusals.{reader_refused, question_refused, slip_answered}
 use Rattle.checker.proofs.check.check.Goals as goal
 
 pub returns-in-Refused : goal.returns-in-Refused
@@ -22,7 +22,7 @@ returns-then-question_wrong c =
     let accepts : Accepts c.args.bundle.now c.in-Accepted.sizes =
     reads_accepted _ _ (rw c.in-Accepted.is at c.read-reading.ensures) in
     let args = c.args in
-    question-refused args.bundle.now _ args.slip.now _ (accepts)
+    question_refused args.bundle.now _ args.slip.now _ (accepts)
     (sym c.question_wrong.ensures ∙ c.if-question_wrong.true)
 
 pub check_slip-requires : goal.check_slip-requires
@@ -35,5 +35,5 @@ pub returns : goal.returns
 returns c =
     let accepts : Accepts c.args.bundle.now c.in-Accepted.sizes =
     reads_accepted _ _ (rw c.in-Accepted.is at c.read-reading.ensures) in
-    slip-answered c.args.bundle.now _ c.args.slip.now _ (accepts) _
+    slip_answered c.args.bundle.now _ c.args.slip.now _ (accepts) _
     (sym c.question_wrong.ensures ∙ c.if-question_wrong.false) c.check_slip.ensures

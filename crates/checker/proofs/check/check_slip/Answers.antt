@@ -2,7 +2,6 @@
 use Prim.Native.Nat.{◌/◌}
 use native.Mathlib.Omega.{arith}
 use mathlib.Core.Path.{◌≡◌, ◌∙◌}
-use borrow.Author.Tests.{not-true, not-false}
 use lib.ListN.{length}
 use Rattle.bundle.specs.Held.{book_in}
 use Rattle.bundle.specs.Question.{role_asked}

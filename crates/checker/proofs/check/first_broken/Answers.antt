@@ -1,5 +1,4 @@
 -- `checker::check::first_broken` meets its contract. The invariants: no line before i is wrong, and no premise of line i before j.
-use Prim.Native.Nat.{◌-◌}
 use mathlib.Core.Path.{sym, ◌∙◌}
 use borrow.Author.Rules.{rules}
 use Rattle.base.proofs.Lowest.{missed_none, missed_more, lowest_none}

@@ -1,5 +1,4 @@
 -- `letters::read::fill_records` meets its contract. The invariant: the records of the lines passed are stored.
-use Prim.Native.Nat.{◌-◌}
 use native.Mathlib.Omega.{arith}
 use borrow.Author.Rules.{rules}
 use Rattle.text.proofs.Written.{wrote_length}

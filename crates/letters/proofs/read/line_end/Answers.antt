@@ -1,7 +1,6 @@
 -- `letters::read::line_end` meets its contract.
 use Rattle.letters.proofs.Cut.{end_here, end_later, end_none}
 use mathlib.Core.Path.{refl}
-use Prim.Native.Nat.{◌-◌}
 use native.Mathlib.Omega.{arith}
 use borrow.Author.Rules.{rules}
 use Rattle.letters.proofs.read.line_end.Goals as goal

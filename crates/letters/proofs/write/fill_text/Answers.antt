@@ -4,7 +4,6 @@ use Rattle.spelling.proofs.Texts.{wrote_as}
 use Rattle.text.proofs.Written.{wrote_length}
 use Rattle.content.specs.Content.{whole_records}
 use mathlib.Core.Path.{◌≡◌, ap}
-use Prim.Native.Nat.{◌-◌}
 use native.Mathlib.Omega.{arith}
 use borrow.Author.Rules.{rules}
 use Rattle.letters.proofs.write.fill_text.Goals as goal

@@ -1,7 +1,7 @@
 -- `letters::write::judge_records` meets its contract.
 use native.Mathlib.Omega.{arith}
 use mathlib.Core.Path.{sym, ◌∙◌}
-use Rattle.letters.proofs.Writing.{records_cut, records-range, records-flaw, records-short, records_right}
+use Rattle.letters.proofs.Writing.{records_cut, records_range, records_flaw, records_short, records_right}
 use Rattle.letters.proofs.write.judge_records.Goals as goal
 
 pub returns-then-records-ne0 : goal.returns-then-records-ne0
@@ -12,18 +12,18 @@ returns-then-records-ne0 c =
 pub returns-then-out_of_range : goal.returns-then-out_of_range
 returns-then-out_of_range c =
     let args = c.args in
-    records-range args.entities args.names args.records.now args.size (omega arith) (sym c.out_of_range.ensures ∙ c.if-out_of_range.true)
+    records_range args.entities args.names args.records.now args.size (omega arith) (sym c.out_of_range.ensures ∙ c.if-out_of_range.true)
 
 pub returns-then-flaw-ne0 : goal.returns-then-flaw-ne0
 returns-then-flaw-ne0 c =
     let args = c.args in
-    records-flaw args.entities args.names args.records.now args.size (omega arith) (sym c.out_of_range.ensures ∙ c.if-out_of_range.false)
+    records_flaw args.entities args.names args.records.now args.size (omega arith) (sym c.out_of_range.ensures ∙ c.if-out_of_range.false)
     c.flaw_of-flaw.result c.flaw_of-flaw.ensures (λ e. c.if-flaw-ne0.true (omega arith))
 
 pub judge_room-requires : goal.judge_room-requires
 judge_room-requires c =
     let args = c.args in
-    records-short args.entities args.names args.records.now args.size (omega arith) (sym c.out_of_range.ensures ∙ c.if-out_of_range.false)
+    records_short args.entities args.names args.records.now args.size (omega arith) (sym c.out_of_range.ensures ∙ c.if-out_of_range.false)
     c.flaw_of-flaw.result c.flaw_of-flaw.ensures (omega arith)
 
 pub returns : goal.returns

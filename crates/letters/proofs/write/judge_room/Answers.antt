@@ -1,7 +1,7 @@
 -- `letters::write::judge_room` meets its contract.
 use native.Mathlib.Omega.{arith}
 use borrow.Author.Rules.{rules}
-use Rattle.letters.proofs.Writing.{text_many, text_short, text-room}
+use Rattle.letters.proofs.Writing.{text_many, text_short, text_room}
 use Rattle.letters.proofs.write.judge_room.Goals as goal
 
 pub returns-then-records-gt-RECORDS : goal.returns-then-records-gt-RECORDS
@@ -15,4 +15,4 @@ returns-then-size-length c =
 
 pub returns : goal.returns
 returns c =
-    text-room c.args.records.now c.args.size (omega arith) c.requires _ c.text_length-length.ensures c.if-size-length.false
+    text_room c.args.records.now c.args.size (omega arith) c.requires _ c.text_length-length.ensures c.if-size-length.false

@@ -3,7 +3,6 @@ use Rattle.letters.proofs.Filling.{counted_few, counted_more}
 use Rattle.letters.specs.Lines.{counted_bytes}
 use Rattle.content.specs.Content.{whole_records}
 use mathlib.Core.Path.{◌≡◌, refl, ap, ◌∙◌}
-use Prim.Native.Nat.{◌-◌}
 use native.Mathlib.Omega.{arith}
 use borrow.Author.Rules.{rules}
 use Rattle.letters.proofs.write.text_length.Goals as goal

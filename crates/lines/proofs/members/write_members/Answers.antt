@@ -1,5 +1,4 @@
 -- `lines::members::write_members` meets its contract. The invariant: the lines of the persons passed are written.
-use Prim.Native.Nat.{◌-◌}
 use native.Mathlib.Omega.{arith}
 use mathlib.Core.Path.{refl, ◌∙◌}
 use borrow.Author.Rules.{rules}

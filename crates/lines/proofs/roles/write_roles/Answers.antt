@@ -1,6 +1,5 @@
 -- `lines::roles::write_roles` meets its contract. The invariant: the lines of the words passed are written.
 use borrow.Author.Rules.{rules}
-use Prim.Native.Nat.{◌-◌}
 use native.Mathlib.Omega.{arith}
 use mathlib.Core.Path.{refl, ◌∙◌}
 use Rattle.text.proofs.Written.{wrote_length}

@@ -1,8 +1,7 @@
 -- `premises::premise::between` meets its contract. The invariant: the test fails below x.
-use Prim.Native.Nat.{◌+◌, ◌-◌}
+use Prim.Native.Nat.{◌+◌}
 use mathlib.Core.Path.{sym, ap, ◌∙◌}
 use Rattle.base.proofs.Lowest.{missed_none, missed_more, lowest_hit, lowest_none}
-use Rattle.premises.specs.Premise.{is_between}
 use borrow.Author.Rules.{rules}
 use Rattle.premises.proofs.premise.between.Goals as goal
 

@@ -1,5 +1,4 @@
 -- `records::mistake::first_kind` meets its contract. The invariant: the least kind is that of the bytes passed.
-use Prim.Native.Nat.{◌-◌}
 use Rattle.base.proofs.Lowest.{least_none, least_lower, least_same, least_done}
 use Rattle.records.specs.Mistake.{mistake_kind}
 use Rattle.records.proofs.Ways.{found_kind}
@@ -18,8 +17,8 @@ loop-i-preserved c =
       inv.1,
       inv.2,
       elim c.if-kind-least.branch [
-        then-kind-least w ↦ rw w.least-is (least_lower _ 5 _ _ _ inv.3 found w.if-kind-least.true)
-      | else-kind-least w ↦ rw w.least-is (least_same _ 5 _ _ _ inv.3 found w.if-kind-least.false)
+        | then-kind-least w ↦ rw w.least-is (least_lower _ 5 _ _ _ inv.3 found w.if-kind-least.true)
+        | else-kind-least w ↦ rw w.least-is (least_same _ 5 _ _ _ inv.3 found w.if-kind-least.false)
       ],
     )
 

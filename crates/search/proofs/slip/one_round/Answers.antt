@@ -1,7 +1,6 @@
 -- `search::slip::one_round` meets its contract. The invariant: the words said are those after the first records.
 use native.Mathlib.Omega.{arith}
 use borrow.Author.Rules.{rules}
-use Prim.Native.Nat.{◌-◌}
 use mathlib.Core.Path.{sym, ◌∙◌}
 use Rattle.ledger.proofs.Steps.{extended_same, extended_twice, writing_on, progress_stop, progress_end}
 use Rattle.words.proofs.Filling.{copied_same}

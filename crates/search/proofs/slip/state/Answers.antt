@@ -2,7 +2,7 @@
 use Prim.Native.Nat.{◌<◌}
 use Rattle.rt0.specs.Sizes.{slip_lines}
 use Rattle.ledger.proofs.Steps.{none_more}
-use Rattle.ledger.proofs.Stating.{number_most, line-room, line-more}
+use Rattle.ledger.proofs.Stating.{number_most, line_room, line_more}
 use native.Mathlib.Omega.{arith}
 use Rattle.search.proofs.slip.state.Goals as goal
 
@@ -20,22 +20,22 @@ overflow_cast-given c =
 pub overflow_add-index : goal.overflow_add-index
 overflow_add-index c =
     let room : c.args.lines < slip_lines =
-    line-room c.requires.0 c.requires.1 c.requires.2 c.if-given-i-eq0.false c.if-index-at-ne0.false in
+    line_room c.requires.0 c.requires.1 c.requires.2 c.if-given-i-eq0.false c.if-index-at-ne0.false in
     omega (arith, room)
 
 pub overflow_cast-index : goal.overflow_cast-index
 overflow_cast-index c =
     let room : c.args.lines < slip_lines =
-    line-room c.requires.0 c.requires.1 c.requires.2 c.if-given-i-eq0.false c.if-index-at-ne0.false in
+    line_room c.requires.0 c.requires.1 c.requires.2 c.if-given-i-eq0.false c.if-index-at-ne0.false in
     omega (arith, room)
 
 pub overflow_add-result : goal.overflow_add-result
 overflow_add-result c =
     let room : c.args.lines < slip_lines =
-    line-room c.requires.0 c.requires.1 c.requires.2 c.if-given-i-eq0.false c.if-index-at-ne0.false in
+    line_room c.requires.0 c.requires.1 c.requires.2 c.if-given-i-eq0.false c.if-index-at-ne0.false in
     omega (arith, room)
 
 pub returns : goal.returns
 returns c =
-    line-more c.requires.0 c.requires.1 c.requires.2 c.if-given-i-eq0.false c.if-index-at-ne0.false
+    line_more c.requires.0 c.requires.1 c.requires.2 c.if-given-i-eq0.false c.if-index-at-ne0.false
     c.record_at-record.ensures c.write_line.ensures

@@ -1,7 +1,6 @@
 -- `search::slip::state_members` meets its contract. The invariant: the members before i have lines.
 use native.Mathlib.Omega.{arith}
 use borrow.Author.Rules.{rules}
-use Prim.Native.Nat.{◌-◌}
 use mathlib.Core.Path.{sym, ◌∙◌}
 use Rattle.ledger.proofs.Steps.{extended_same, extended_twice, writing_on, progress_stop, progress_end, stated_none, stated_more}
 use Rattle.search.proofs.slip.state_members.Goals as goal

@@ -1,12 +1,7 @@
 -- `search::slip::use_record` meets its contract.
 use native.Mathlib.Omega.{arith}
-use Prim.Native.Nat.{◌-◌, ◌<◌}
-use mathlib.Core.Path.{◌≡◌}
 use Rattle.ledger.proofs.Stating.{place_there, gained_place, gained_word, gained_use}
 use Rattle.ledger.proofs.Steps.{extended_same, progress_end}
-use Rattle.bundle.specs.Access.{record_of}
-use Rattle.words.specs.Sizes.{table_words}
-use Rattle.words.specs.Give.{give_of, head_place}
 use Rattle.ledger.proofs.Backing.{backed_more, none_new}
 use Rattle.search.proofs.slip.use_record.Goals as goal
 

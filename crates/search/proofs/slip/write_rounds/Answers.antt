@@ -1,6 +1,5 @@
 -- `search::slip::write_rounds` meets its contract. The invariant: the words said are those after so many rounds.
 use borrow.Author.Rules.{rules}
-use Prim.Native.Nat.{◌-◌}
 use mathlib.Core.Path.{sym, ◌∙◌}
 use Rattle.bundle.specs.Held.{held}
 use Rattle.ledger.proofs.Steps.{extended_same, extended_twice, writing_words}

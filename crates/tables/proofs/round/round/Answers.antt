@@ -1,7 +1,6 @@
 -- `tables::round::round` meets its contract. The invariant: the words are those after one use of each of the first n steps.
 use native.Mathlib.Omega.{arith}
 use borrow.Author.Rules.{rules}
-use Prim.Native.Nat.{◌-◌}
 use mathlib.Core.Path.{◌≡◌, refl}
 use Rattle.words.proofs.Stepped.{use_none, use_more}
 use Rattle.tables.proofs.round.round.Goals as goal

@@ -1,5 +1,4 @@
 -- `words::table::same` meets its contract. The invariant: the words before i agree.
-use Prim.Native.Nat.{◌-◌}
 use mathlib.Core.Path.{sym}
 use mathlib.Core.Bool.{true≢false}
 use borrow.Author.Rules.{rules}

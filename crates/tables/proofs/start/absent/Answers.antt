@@ -1,7 +1,6 @@
 -- `tables::start::absent` meets its contract. The invariant: the word is that of the absent ones of the first i entities.
 use native.Mathlib.Omega.{arith}
 use borrow.Author.Rules.{rules}
-use Prim.Native.Nat.{◌-◌}
 use mathlib.Core.Path.{◌≡◌, ◌∙◌}
 use Rattle.rt0.proofs.BitsBelow.{bits_none}
 use Rattle.tables.specs.Open.{absent_word}
@@ -19,8 +18,8 @@ loop-i-preserved c =
     let q = c.is_absent.ensures in (
       search rules,
       elim c.if-is_absent.branch [
-        then-is_absent w ↦ w.word-is ∙ absent_more _ _ _ e _ q (omega arith) w.if-is_absent.true
-      | else-is_absent w ↦ w.word-is ∙ absent_other _ _ _ e _ q w.if-is_absent.false
+        | then-is_absent w ↦ w.word-is ∙ absent_more _ _ _ e _ q (omega arith) w.if-is_absent.true
+        | else-is_absent w ↦ w.word-is ∙ absent_other _ _ _ e _ q w.if-is_absent.false
       ],
     )
 

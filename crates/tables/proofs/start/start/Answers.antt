@@ -1,6 +1,5 @@
 -- `tables::start::start` meets its contract. The invariant: the first i words are those of the table to be made.
 use borrow.Author.Rules.{rules}
-use Prim.Native.Nat.{◌-◌}
 use lib.ListN.{length-set}
 use Rattle.rt0.specs.Word.{open_words}
 use Rattle.words.specs.Sizes.{width, table_words}

@@ -1,7 +1,6 @@
 -- `words::give::link_word` meets its contract. The invariant: the word gained so far is that of the first x entities.
 use native.Mathlib.Omega.{arith}
 use borrow.Author.Rules.{rules}
-use Prim.Native.Nat.{◌-◌}
 use mathlib.Core.Path.{◌≡◌, ◌∙◌}
 use Rattle.words.specs.Give.{link_of}
 use Rattle.words.proofs.Gained.{link_other, link_member}
@@ -17,8 +16,8 @@ loop-x-preserved c =
     let e = c.loop-x.invariant.1 in (
       search rules,
       elim c.if-members-x-eq1.branch [
-        then-members-x-eq1 w ↦ w.gained-is ∙ link_member _ _ _ _ _ e w.if-members-x-eq1.true w.word-gained.ensures
-      | else-members-x-eq1 w ↦ w.gained-is ∙ link_other _ _ _ _ _ e w.if-members-x-eq1.false
+        | then-members-x-eq1 w ↦ w.gained-is ∙ link_member _ _ _ _ _ e w.if-members-x-eq1.true w.word-gained.ensures
+        | else-members-x-eq1 w ↦ w.gained-is ∙ link_other _ _ _ _ _ e w.if-members-x-eq1.false
       ],
     )
 

@@ -1,7 +1,6 @@
 -- `words::step::write_steps` meets its contract. The invariant: the first n steps are those of the first n records.
 use native.Mathlib.Omega.{arith}
 use borrow.Author.Rules.{rules}
-use Prim.Native.Nat.{◌-◌}
 use mathlib.Core.Path.{refl, ◌∙◌}
 use native.Mathlib.Numerals.{add-one}
 use borrow.Author.Count.{below_none}

@@ -1,6 +1,6 @@
 -- `words::table::copy` meets its contract. The invariant: the first i words are those of the other table.
 use borrow.Author.Rules.{rules}
-use Prim.Native.Nat.{◌-◌, min}
+use Prim.Native.Nat.{min}
 use mathlib.Core.Path.{◌≡◌}
 use lib.ListN.{length}
 use Rattle.words.proofs.Filling.{copied_none, copied_more, copied_length}

@@ -1,5 +1,4 @@
 -- `writer::fill::fill` meets its contract. The invariant: whatever block 0 is, the record blocks passed stand behind it.
-use Prim.Native.Nat.{◌-◌}
 use mathlib.Core.Path.{refl, ◌∙◌}
 use native.Mathlib.Omega.{arith}
 use Rattle.writer.proofs.Filling.{first_size, continues_none, continues_more, fill_done}

@@ -1,5 +1,4 @@
 -- `writer::fill::fill_first` meets its contract. The invariant: the bytes passed are those of block 0.
-use Prim.Native.Nat.{◌-◌}
 use mathlib.Core.Path.{sym, ◌∙◌}
 use native.Mathlib.Omega.{arith}
 use Rattle.content.proofs.Sealed.{length_sealed}

@@ -1,8 +1,6 @@
 -- `writer::fill::fill_records` meets its contract. The invariant: the bytes passed are those of the record block.
-use Prim.Native.Nat.{◌-◌}
 use mathlib.Core.Path.{sym, ◌∙◌}
 use native.Mathlib.Omega.{arith}
-use Rattle.content.specs.InPlace.{listed_byte}
 use Rattle.content.proofs.Sealed.{length_sealed}
 use Rattle.content.proofs.Stores.{filled_none, filled_more, filled_sealed}
 use Rattle.writer.proofs.fill.fill_records.Goals as goal

@@ -2,7 +2,7 @@
 use mathlib.Core.Path.{subst}
 use lib.ListN.{length, take}
 use Rattle.bundle.specs.Rows.{Reads}
-use Rattle.writer.proofs.Tables.{append_first, append_read, append-record, front_fits, front_few, reads_front}
+use Rattle.writer.proofs.Tables.{append_first, append_read, append_record, front_fits, front_few, reads_front}
 use Rattle.writer.proofs.judge.judge_append.Goals as goal
 
 pub returns-then-size-length : goal.returns-then-size-length
@@ -24,7 +24,7 @@ pub returns-in-Accepted : goal.returns-in-Accepted
 returns-in-Accepted c =
     let args = c.args in
     let front = take args.length args.bundle.now in
-    append-record args.bundle.now args.length args.«record».now c.if-size-length.false _ c.judge_record.result
+    append_record args.bundle.now args.length args.«record».now c.if-size-length.false _ c.judge_record.result
     (reads_front front _ _ c.in-Accepted.is c.read_front.ensures) c.judge_record.ensures
 
 pub returns-in-Refused : goal.returns-in-Refused

@@ -1,5 +1,4 @@
 -- `writer::judge::lowest_wrong` meets its contract. The invariant: no record passed is wrong.
-use Prim.Native.Nat.{◌-◌}
 use mathlib.Core.Path.{sym, ◌∙◌}
 use borrow.Author.Rules.{rules}
 use Rattle.base.proofs.Lowest.{missed_none, missed_more, lowest_hit, lowest_none}

@@ -1,8 +1,6 @@
 -- `writer::judge::marks_wrong` meets its contract. The invariant: no mark passed is wrong.
-use Prim.Native.Nat.{◌-◌}
 use borrow.Author.Rules.{rules}
 use Rattle.base.proofs.Lowest.{missed_none, missed_more}
-use Rattle.content.specs.Content.{mark_wrong}
 use Rattle.writer.proofs.Heads.{marks_many, marks_one, marks_none, mark_found}
 use Rattle.writer.proofs.judge.marks_wrong.Goals as goal
 

@@ -1,5 +1,4 @@
 -- `writer::last::put_record` meets its contract. The invariant: the bytes passed are those of the block with the record put last.
-use Prim.Native.Nat.{◌-◌}
 use mathlib.Core.Path.{sym, ◌∙◌}
 use native.Mathlib.Omega.{arith}
 use borrow.Author.Rules.{rules}
