@@ -1,5 +1,4 @@
 -- `holder_lines::line::write_shelves` meets its contract.
-use Prim.Native.Nat.{◌-◌}
 use borrow.Author.Rules.{rules}
 use Rattle.words.specs.Sizes.{most_entities}
 use Rattle.text.proofs.Written.{wrote_length}
