@@ -3,7 +3,7 @@
 -- The input comes in pieces, one for each read that gave any bytes. Which bytes came, how many, and whether a read failed no contract
 -- can say: a read of the C library promises nothing of them. So the promise says "there are pieces such that", and what follows of
 -- the buffer and of the answer.
-use Rattle.std.specs.Prelude.{ℕ, zero, suc, ◌+◌, ◌<◌, ◌≤◌, min, ◌≡◌, List, [], ◌∷◌, ◌++◌, length, take, drop, ℤ, pos, negsuc}
+use Rattle.std.specs.Prelude.{ℕ, zero, suc, ◌+◌, ◌<◌, ◌≤◌, ◌≡◌, List, [], ◌∷◌, ◌++◌, length, take, drop, ℤ, negsuc, Result, Ok, Err}
 use Rattle.input.specs.declared.Input.{Input}
 use Rattle.input.specs.declared.Input.TheVariants.{Whole, Longer, Failed}
 use Rattle.input.specs.declared.Piece.{Piece}
@@ -45,13 +45,13 @@ pub record Filled (before after : List ℕ) (said : Input) : Type 0 where
   pub came : Came count before after
   pub says : Says said count (length before)
 
--- what one read of at most so many bytes gave, by what it answered: -1 where it failed, else how many bytes came
-abbrev pub given_by : ℤ → ℕ → Piece
-given_by (negsuc n) most = PieceFailed (negsuc n)
-given_by (pos zero) most = End
-given_by (pos (suc n)) most = Bytes (min (suc n) most)
+-- what one read gave, by what it answered: an error where it failed, else how many bytes came
+abbrev pub given_by : {E : Type 0} → Result ℕ E → Piece
+given_by (Err error) = PieceFailed failure
+given_by (Ok zero) = End
+given_by (Ok (suc n)) = Bytes (suc n)
 
--- .. which a read of C's that keeps its contract makes one of these
+-- .. which a read of at most so many bytes that keeps its contract makes one of these
 abbrev pub Given : ℕ → Piece → Type 0
 Given most (Bytes n) = (0 < n) × (n ≤ most)
 Given most End = Unit {0}

@@ -7,7 +7,8 @@
 ghost use Rattle.std.specs.Prelude.{◌+◌, ◌<◌, ◌≤◌, min, ◌≡◌, length};
 ghost use Rattle.input.specs.Input.{Filled, Added, Given, Says, given_by, placed_at, said_after};
 
-use libc::STDIN_FILENO;
+use std::io;
+use std::io::Read;
 
 // What reading gave.
 #[derive(Clone, Copy)]
@@ -34,6 +35,9 @@ enum Piece {
 // The most bytes that are asked for at once.
 const MOST_AT_ONCE: usize = 512;
 
+// What a read of the system answers where it fails. The library gives an error in its place, of which nothing more is said.
+const FAILURE: isize = -1;
+
 // The smaller of two numbers.
 fn smaller(a: usize, b: usize) -> usize
     ensures { result ≡ min a b }
@@ -41,26 +45,24 @@ fn smaller(a: usize, b: usize) -> usize
     if a < b { a } else { b }
 }
 
-// What a read into the space gave, by what it answered.
-fn given_by(answer: isize, space: &[u8]) -> Piece
-    ensures { result ≡ given_by answer (length space.now) }
+// What a read gave, by what it answered.
+fn given_by(answer: io::Result<usize>) -> Piece
+    ensures { result ≡ given_by answer }
 {
-    if answer < 0 {
-        return Piece::Failed(answer);
+    match answer {
+        Ok(0) => Piece::End,
+        Ok(n) => Piece::Bytes(n),
+        Err(_) => Piece::Failed(FAILURE),
     }
-    if answer == 0 {
-        return Piece::End;
-    }
-    Piece::Bytes(io::count(answer, space))
 }
 
 // One read of standard input, into the space from its start. Where the space has no byte, nothing is said of the end.
-fn read_some(space: &mut [u8]) -> Piece
+fn read_some<R: Read>(stdin: &mut R, space: &mut [u8]) -> Piece
     requires { 0 < length space.old }
     ensures { Given (length space.old) result }
 {
-    let answer = libc::read(STDIN_FILENO, space);
-    given_by(answer, space)
+    let answer = stdin.read(space);
+    given_by(answer)
 }
 
 // Copies a piece into the buffer, behind its first `done` bytes.
@@ -68,16 +70,17 @@ fn keep(piece: &[u8], buffer: &mut [u8], done: usize)
     requires { done + length piece.now ≤ length buffer.old }
     ensures { buffer.new ≡ placed_at done piece.now buffer.old }
 {
-    bytes::copy(piece, &mut buffer[done..]);
+    let end = done + piece.len();
+    buffer[done..end].copy_from_slice(piece);
 }
 
 // One piece of standard input, read into the space and copied into the buffer behind its first `done` bytes.
-fn read_piece(space: &mut [u8], buffer: &mut [u8], done: usize) -> Piece
+fn read_piece<R: Read>(stdin: &mut R, space: &mut [u8], buffer: &mut [u8], done: usize) -> Piece
     requires { (0 < length space.old) × (done < length buffer.old) }
     ensures { Added done buffer.old buffer.new result }
 {
     let most = smaller(space.len(), buffer.len() - done);
-    match read_some(&mut space[..most]) {
+    match read_some(stdin, &mut space[..most]) {
         Piece::Bytes(n) => {
             keep(&space[..n], buffer, done);
             Piece::Bytes(n)
@@ -88,12 +91,12 @@ fn read_piece(space: &mut [u8], buffer: &mut [u8], done: usize) -> Piece
 }
 
 // The next piece of standard input, behind the first `done` bytes of the buffer.
-fn next_piece(buffer: &mut [u8], done: usize) -> Piece
+fn next_piece<R: Read>(stdin: &mut R, buffer: &mut [u8], done: usize) -> Piece
     requires { done < length buffer.old }
     ensures { Added done buffer.old buffer.new result }
 {
     let mut space = [0u8; MOST_AT_ONCE];
-    read_piece(&mut space, buffer, done)
+    read_piece(stdin, &mut space, buffer, done)
 }
 
 // What is said of the input by what the last read gave, with so many bytes before it. Bytes that the buffer has no room for say that the
@@ -109,24 +112,24 @@ fn said_after(last: Piece, done: usize) -> Input
 }
 
 // What is said of a full buffer of that size: one byte more is asked for, and kept nowhere.
-fn past_the_end(size: usize) -> Input
+fn past_the_end<R: Read>(stdin: &mut R, size: usize) -> Input
     ensures { Says result size size }
 {
     let mut more = [0u8; 1];
-    said_after(read_some(&mut more), size)
+    said_after(read_some(stdin, &mut more), size)
 }
 
 // Reads standard input into the buffer, until it ends, is longer than the buffer or a read fails.
-pub fn fill(buffer: &mut [u8]) -> Input
+pub fn fill<R: Read>(stdin: &mut R, buffer: &mut [u8]) -> Input
     ensures { Filled buffer.old buffer.new result }
 {
     let mut done: usize = 0;
     while done < buffer.len() {
-        let piece = next_piece(buffer, done);
+        let piece = next_piece(stdin, buffer, done);
         let Piece::Bytes(n) = piece else {
             return said_after(piece, done);
         };
         done += n;
     }
-    past_the_end(done)
+    past_the_end(stdin, done)
 }

@@ -6,6 +6,7 @@ ghost use Rattle.std.specs.Prelude.{◌≡◌};
 ghost use Rattle.said.specs.Said.{shown_by};
 
 use answers::line::Text;
+use std::io::Write;
 
 // What a program says: on standard output and on standard error.
 #[derive(Clone, Copy)]
@@ -15,15 +16,15 @@ pub struct Said {
 }
 
 // Writes bytes, which are those that a text shows.
-fn write_shown(to: i32, shown: &[u8], text: Text)
+fn write_shown<W: Write>(to: &mut W, shown: &[u8], text: Text)
     requires { shown.now ≡ shown_by text }
 {
-    io::write_all(to, shown);
+    let _ = to.write_all(shown);
 }
 
 // Writes so many bytes of a text's room as its length says, and nothing where there are not so many. The room is handed over by itself:
 // of an array that is an argument its number of bytes is known.
-fn write_from(to: i32, room: [u8; Text::CAPACITY], text: Text)
+fn write_from<W: Write>(to: &mut W, room: [u8; Text::CAPACITY], text: Text)
     requires { room ≡ text.bytes }
 {
     let size = text.length;
@@ -34,7 +35,7 @@ fn write_from(to: i32, room: [u8; Text::CAPACITY], text: Text)
 }
 
 // Writes what a text shows, and nothing where its length is beyond its room.
-pub fn write_text(to: i32, text: Text) {
+pub fn write_text<W: Write>(to: &mut W, text: Text) {
     let room = text.bytes;
     write_from(to, room, text);
 }
