@@ -17,10 +17,10 @@ use answers::line::{Text, empty, line, message, refusal};
 use asked::bundle_start;
 use base::byte;
 use input::{Input, fill};
-use libc::{STDERR_FILENO, STDOUT_FILENO};
 use rt0::Slip;
 use said::{Said, write_text};
 use search::search;
+use std::io::{Read, Write};
 use words::table::Table;
 
 // The bytes of a question before its bundle: the person, the entity and the role name.
@@ -94,16 +94,21 @@ fn say(got: Input, buffer: &[u8]) -> Said
 }
 
 // Writes what is rightly said of the buffer.
-fn write(said: Said, got: Input, buffer: &[u8])
+fn write<O: Write, E: Write>(stdout: &mut O, stderr: &mut E, said: Said, got: Input, buffer: &[u8])
     requires { Rightly Prints unreadable got buffer.now said }
 {
-    write_text(STDOUT_FILENO, said.out);
-    write_text(STDERR_FILENO, said.problem);
+    write_text(stdout, said.out);
+    write_text(stderr, said.problem);
 }
 
-fn main() {
+// The program, over any reader and writers.
+fn run<I: Read, O: Write, E: Write>(stdin: &mut I, stdout: &mut O, stderr: &mut E) {
     let mut buffer = [0u8; Memory::BUFFER];
-    let got = fill(&mut buffer);
+    let got = fill(stdin, &mut buffer);
     let said = say(got, &buffer);
-    write(said, got, &buffer);
+    write(stdout, stderr, said, got, &buffer);
+}
+
+fn main(rt: HostRuntime) {
+    run(&mut rt.stdin(), &mut rt.stdout(), &mut rt.stderr());
 }

@@ -22,6 +22,7 @@ use desk::listing_of;
 use input::{Input, fill};
 use letters::read::read_lines;
 use listed::{Listing, write_listing};
+use std::io::{Read, Write};
 use writer::answer::Wrote;
 
 // The bytes before the text.
@@ -158,16 +159,28 @@ fn say(got: Input, buffer: &[u8], bundle: &mut [u8]) -> Listing
 }
 
 // Writes what is rightly said of the buffer.
-fn write(listing: Listing, got: Input, buffer: &[u8], bundle: &[u8])
+fn write<O: Write, E: Write>(
+    stdout: &mut O,
+    stderr: &mut E,
+    listing: Listing,
+    got: Input,
+    buffer: &[u8],
+    bundle: &[u8],
+)
     requires { RightlyListed Prints unreadable got buffer.now bundle.now listing }
 {
-    write_listing(listing, bundle);
+    write_listing(stdout, stderr, listing, bundle);
 }
 
-fn main() {
+// The program, over any reader and writers.
+fn run<I: Read, O: Write, E: Write>(stdin: &mut I, stdout: &mut O, stderr: &mut E) {
     let mut buffer = [0u8; Memory::BUFFER];
-    let got = fill(&mut buffer);
+    let got = fill(stdin, &mut buffer);
     let mut bundle = [0u8; Memory::BUNDLE];
     let listing = say(got, &buffer, &mut bundle);
-    write(listing, got, &buffer, &bundle);
+    write(stdout, stderr, listing, got, &buffer, &bundle);
+}
+
+fn main(rt: HostRuntime) {
+    run(&mut rt.stdin(), &mut rt.stdout(), &mut rt.stderr());
 }

@@ -20,6 +20,7 @@ use holder_lines::Room;
 use input::{Input, fill};
 use listed::{Listing, listing_of, write_listing};
 use lists::Listed;
+use std::io::{Read, Write};
 
 // The memory of the program.
 #[derive(Drop)]
@@ -68,16 +69,28 @@ fn say(got: Input, buffer: &[u8], text: &mut [u8]) -> Listing
 }
 
 // Writes what is rightly said of the buffer.
-fn write(listing: Listing, got: Input, buffer: &[u8], text: &[u8])
+fn write<O: Write, E: Write>(
+    stdout: &mut O,
+    stderr: &mut E,
+    listing: Listing,
+    got: Input,
+    buffer: &[u8],
+    text: &[u8],
+)
     requires { RightlyListed Prints unreadable got buffer.now text.now listing }
 {
-    write_listing(listing, text);
+    write_listing(stdout, stderr, listing, text);
 }
 
-fn main() {
+// The program, over any reader and writers.
+fn run<I: Read, O: Write, E: Write>(stdin: &mut I, stdout: &mut O, stderr: &mut E) {
     let mut buffer = [0u8; Memory::BUFFER];
-    let got = fill(&mut buffer);
+    let got = fill(stdin, &mut buffer);
     let mut text = [0u8; Room::BYTES];
     let listing = say(got, &buffer, &mut text);
-    write(listing, got, &buffer, &text);
+    write(stdout, stderr, listing, got, &buffer, &text);
+}
+
+fn main(rt: HostRuntime) {
+    run(&mut rt.stdin(), &mut rt.stdout(), &mut rt.stderr());
 }

@@ -5,9 +5,9 @@ ghost use Rattle.std.specs.Prelude.{◌≡◌, take};
 ghost use Rattle.listed.specs.Listing.{Tells};
 
 use answers::line::{Text, empty, refusal};
-use libc::{STDERR_FILENO, STDOUT_FILENO};
 use lists::Listed;
 use said::write_text;
+use std::io::Write;
 
 // So many bytes of the lent text and then a line on standard output, and a message on standard error.
 #[derive(Clone, Copy)]
@@ -36,14 +36,14 @@ pub fn listing_of(listed: Listed) -> Listing
 }
 
 // Writes bytes, which are the first ones of a text.
-fn write_part(to: i32, part: &[u8], text: &[u8], size: usize)
+fn write_part<W: Write>(to: &mut W, part: &[u8], text: &[u8], size: usize)
     requires { part.now ≡ take size text.now }
 {
-    io::write_all(to, part);
+    let _ = to.write_all(part);
 }
 
 // Writes the first bytes of a text, and nothing where it has not so many.
-pub fn write_front(to: i32, text: &[u8], size: usize) {
+pub fn write_front<W: Write>(to: &mut W, text: &[u8], size: usize) {
     if text.len() < size {
         return;
     }
@@ -51,8 +51,13 @@ pub fn write_front(to: i32, text: &[u8], size: usize) {
 }
 
 // Writes what a listing says.
-pub fn write_listing(listing: Listing, text: &[u8]) {
-    write_front(STDOUT_FILENO, text, listing.length);
-    write_text(STDOUT_FILENO, listing.line);
-    write_text(STDERR_FILENO, listing.problem);
+pub fn write_listing<O: Write, E: Write>(
+    stdout: &mut O,
+    stderr: &mut E,
+    listing: Listing,
+    text: &[u8],
+) {
+    write_front(stdout, text, listing.length);
+    write_text(stdout, listing.line);
+    write_text(stderr, listing.problem);
 }
