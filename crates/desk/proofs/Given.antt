@@ -3,7 +3,7 @@ use Prim.Native.Nat.{ℕ, min}
 use native.Mathlib.Omega.{arith}
 use mathlib.Core.Path.{◌≡◌, refl, ap}
 use mathlib.Core.List.{List, [], append-nil}
-use lib.ListN.{length, take}
+use lib.ListN.{take}
 use Rattle.base.specs.Refusals.{Row, AllNumbered, refused, passed}
 use Rattle.base.proofs.Refusals.{due_number}
 use Rattle.writer.specs.declared.answer.Wrote.{Wrote}
