@@ -1,7 +1,7 @@
 -- `lines_from_bundle::from_records` meets its contract.
 use native.Mathlib.Omega.{arith}
 use Rattle.bundle.proofs.Accepted.{accepted_contents}
-use Rattle.lines_from_bundle.proofs.Prints.{sizes_small, gathered-inside, bundle-lines}
+use Rattle.lines_from_bundle.proofs.Prints.{sizes_small, gathered_inside, bundle_lines}
 use Rattle.lines_from_bundle.proofs.from_records.Goals as goal
 
 pub overflow_cast-entities : goal.overflow_cast-entities
@@ -16,10 +16,10 @@ gather-n-requires c = omega (arith, (accepted_contents _ _ c.requires.0).size)
 pub write_front-requires : goal.write_front-requires
 write_front-requires c =
     let args = c.args in
-    gathered-inside args.bundle.now args.sizes c.requires.0 args.records.now _ _ c.requires.1 c.gather-n.ensures
+    gathered_inside args.bundle.now args.sizes c.requires.0 args.records.now _ _ c.requires.1 c.gather-n.ensures
 
 pub returns : goal.returns
 returns c =
     let args = c.args in
-    bundle-lines args.bundle.now args.sizes c.requires.0 args.records.now _ _ c.requires.1 c.gather-n.ensures args.text.now _ _
+    bundle_lines args.bundle.now args.sizes c.requires.0 args.records.now _ _ c.requires.1 c.gather-n.ensures args.text.now _ _
     c.requires.2 c.write_front.ensures
