@@ -2,13 +2,15 @@
 -- stands in it.
 use Prim.Native.Nat.{ℕ, ◌+◌, ◌<◌, ◌≤◌}
 use native.Mathlib.Omega.{arith}
-use mathlib.Core.Path.{◌≡◌, refl, ap, sym, ◌∙◌}
+use mathlib.Core.Path.{◌≡◌, refl, ap, sym, subst, ◌∙◌}
 use mathlib.Core.List.{List, [], ◌∷◌, ◌++◌, append-nil, append_assoc}
 use lib.ListN.{length, take, drop, length-append, length-drop}
 use lib.Seq.{take_at, drop-append-add, drop-drop}
 use Rattle.input.specs.declared.Input.{Input}
 use Rattle.input.specs.declared.Input.TheVariants.{Whole}
-use Rattle.input.specs.Input.{joined, NoneEmpty, Came, Filled, OneMore}
+use Rattle.input.specs.declared.Piece.{Piece}
+use Rattle.input.specs.declared.Piece.TheVariants.{Bytes, End, Failed as PieceFailed}
+use Rattle.input.specs.Input.{joined, NoneEmpty, Says, Came, Filled, said_after, OneMore, Added}
 
 -- a piece more at the end
 joined_more : (pieces : List (List ℕ)) (piece : List ℕ) → joined (pieces ++ piece ∷ []) ≡ joined pieces ++ piece
@@ -26,16 +28,26 @@ pub came_none : (before : List ℕ) → Came 0 before before
 unfolding joined NoneEmpty
 came_none before = record { pieces = []; none_empty = tt; count = refl; fits = omega arith; placed = refl }
 
+-- nothing more came
+came_same : {n : ℕ} {before now after : List ℕ} → Came n before now → after ≡ now → Came n before after
+came_same c e = rw e c
+
 -- the buffer keeps its length
 pub came_length : {n : ℕ} {before after : List ℕ} → Came n before after → length after ≡ length before
 came_length {n} {before} c = ap length c.placed ∙ simp (length-append, length-drop) (omega arith)
+
+-- a full buffer: what is said of so many bytes in as much room is said of this buffer
+pub filled_whole : {n : ℕ} {before now : List ℕ} (said : Input) → Came n before now → length now ≤ n → Says said n n → Filled before now said
+filled_whole {n} {before} said c full s =
+    let all : n ≡ length before = omega (arith, came_length c) in
+    record { count = n; came = c; says = subst (λ (size : ℕ). Says said n size) all s }
 
 -- what is said to be the whole input stands in the buffer
 pub whole_fits : {before now : List ℕ} {said : Input} (n : ℕ) → said ≡ Whole n → Filled before now said → n ≤ length now
 whole_fits n e f = omega (arith, came_length f.came, rw e at f.says)
 
 -- one piece more, behind what has come
-pub came_more : {done n : ℕ} {before now after : List ℕ} → Came done before now → OneMore done now after n → Came (done + n) before after
+came_more : {done n : ℕ} {before now after : List ℕ} → Came done before now → OneMore done now after n → Came (done + n) before after
 came_more {done} {n} {before} {now} {after} c m =
     let front : take done now ≡ joined c.pieces =
     ap (take done) c.placed ∙ take_at (joined c.pieces) (drop done before) done (sym c.count) in
@@ -51,3 +63,15 @@ came_more {done} {n} {before} {now} {after} c m =
       fits = omega (arith, came_length c);
       placed = m.placed ∙ rw (m.size, front, rest, joined_more c.pieces m.piece, append_assoc);
     }
+
+-- a piece more
+pub came_piece : {done n : ℕ} {before now after : List ℕ} {piece : Piece} → Came done before now → piece ≡ Bytes n
+    → Added done now after piece → Came (done + n) before after
+came_piece c e a = came_more c (rw e at a)
+
+-- no piece more: the input has ended, or the read failed
+pub filled_before : {done : ℕ} {before now after : List ℕ} (piece : Piece) → ((n : ℕ) → piece ≡ Bytes n → ⊥) → Came done before now
+    → Added done now after piece → Filled before after (said_after piece done)
+filled_before (Bytes n) none c a = absurd (none n refl)
+filled_before End none c a = record { count = _; came = came_same c a; says = refl }
+filled_before (PieceFailed answer) none c a = record { count = _; came = came_same c a.0; says = a.1 }

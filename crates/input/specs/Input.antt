@@ -1,7 +1,7 @@
 -- What reading standard input leaves in a buffer, and what it says of that.
 --
 -- The input comes in pieces, one for each read that gave any bytes. Which bytes came, how many, and whether a read failed no contract
--- can say: a read of the C library promises nothing of them. So the promise says "there are pieces such that", and what follows of
+-- can say: a read of standard input promises nothing of them. So the promise says "there are pieces such that", and what follows of
 -- the buffer and of the answer.
 use Rattle.std.specs.Prelude.{ℕ, zero, suc, ◌+◌, ◌<◌, ◌≤◌, ◌≡◌, List, [], ◌∷◌, ◌++◌, length, take, drop, ℤ, negsuc, Result, Ok, Err}
 use Rattle.input.specs.declared.Input.{Input}

@@ -35,7 +35,7 @@ pub fn listing_of(listed: Listed) -> Listing
     }
 }
 
-// Writes bytes, which are the first ones of a text.
+// Writes bytes, which are the first ones of a text. Where they cannot be written nothing else is said.
 fn write_part<W: Write>(to: &mut W, part: &[u8], text: &[u8], size: usize)
     requires { part.now ≡ take size text.now }
 {

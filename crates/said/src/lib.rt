@@ -15,7 +15,7 @@ pub struct Said {
     pub problem: Text,
 }
 
-// Writes bytes, which are those that a text shows.
+// Writes bytes, which are those that a text shows. Where they cannot be written nothing else is said.
 fn write_shown<W: Write>(to: &mut W, shown: &[u8], text: Text)
     requires { shown.now ≡ shown_by text }
 {
