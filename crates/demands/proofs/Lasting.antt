@@ -1,5 +1,5 @@
--- Demand 3's last sentence on the real bytes: a slip that was accepted before an append is accepted for the same question after it, by the
--- bytes that then stand in the buffer; and after any number of appends.
+-- Demand 3's last sentence on the real bytes: a slip that was accepted before some appends is accepted for the same question after them, by the
+-- bytes that then stand in the buffer. LastingOnce has it of one append.
 use Prim.Native.Nat.{ℕ}
 use mathlib.Core.List.{List}
 use lib.ListN.{take}
@@ -8,9 +8,7 @@ use Rattle.bundle.specs.declared.question.Question.{Question}
 use Rattle.checker.specs.declared.check.Checked.TheVariants.{Accepted}
 use Rattle.checker.specs.Rows.{Checks}
 use Rattle.checker.proofs.Accepts.{accepted_exactly, accepted_lasts}
-use Rattle.writer.specs.declared.answer.Wrote.TheVariants.{Length}
-use Rattle.writer.specs.Promise.{Appends}
-use Rattle.writer.specs.Appended.{Appended, no_more, one_more}
+use Rattle.writer.specs.Appended.{Appended}
 use Rattle.writer.proofs.Lasting.{appended_grown}
 
 module _ (before : List ℕ) (n : ℕ) (q : Question) (slip : List ℕ) (lines : ℕ) (c : Checks (take n before) q slip (Accepted lines)) where
@@ -21,7 +19,3 @@ module _ (before : List ℕ) (n : ℕ) (q : Question) (slip : List ℕ) (lines :
       let grown = appended_grown before n shown.sizes shown.asked.accepts h in
       accepted_lasts (take n before) (take m after) shown.sizes grown.sizes q slip lines ks shown.asked.accepts grown.accepts
       grown.entities grown.names grown.held_more c
-
-  -- one append
-  pub slip_lasts_once : (bytes after : List ℕ) (m : ℕ) → Appends before n bytes (Length m) after → Checks (take m after) q slip (Accepted lines)
-  slip_lasts_once bytes after m h = slip_lasts (one_more bytes no_more h)
