@@ -1,16 +1,16 @@
 -- Bytes that come into a buffer in pieces: none yet, one piece more, that the buffer keeps its length, and that what is said to have come
 -- stands in it.
-use Prim.Native.Nat.{ℕ, ◌+◌, ◌<◌, ◌≤◌}
+use Prim.Native.Nat.{ℕ, ◌+◌, ◌-◌, ◌<◌, ◌≤◌}
 use native.Mathlib.Omega.{arith}
 use mathlib.Core.Path.{◌≡◌, refl, ap, sym, subst, ◌∙◌}
 use mathlib.Core.List.{List, [], ◌∷◌, ◌++◌, append-nil, append_assoc}
-use lib.ListN.{length, take, drop, length-append, length-drop}
-use lib.Seq.{take_at, drop-append-add, drop-drop}
+use lib.ListN.{length, take, drop, length-append, length-drop, drop_of_length-le}
+use lib.Seq.{take_at, take_all, take-length, drop-append-add, drop-drop}
 use Rattle.input.specs.declared.Input.{Input}
 use Rattle.input.specs.declared.Input.TheVariants.{Whole}
 use Rattle.input.specs.declared.Piece.{Piece}
 use Rattle.input.specs.declared.Piece.TheVariants.{Bytes, End, Failed as PieceFailed}
-use Rattle.input.specs.Input.{joined, NoneEmpty, Says, Came, Filled, said_after, OneMore, Added}
+use Rattle.input.specs.Input.{joined, NoneEmpty, Says, Came, Filled, said_after, placed_at, OneMore, Added}
 
 -- a piece more at the end
 joined_more : (pieces : List (List ℕ)) (piece : List ℕ) → joined (pieces ++ piece ∷ []) ≡ joined pieces ++ piece
@@ -45,6 +45,17 @@ filled_whole {n} {before} said c full s =
 -- what is said to be the whole input stands in the buffer
 pub whole_fits : {before now : List ℕ} {said : Input} (n : ℕ) → said ≡ Whole n → Filled before now said → n ≤ length now
 whole_fits n e f = omega (arith, came_length f.came, rw e at f.says)
+
+-- a part of the buffer that reaches to its end comes back with a piece at its start
+pub kept : (buffer piece part : List ℕ) (done : ℕ) → done + length piece ≤ length buffer
+    → part ≡ take (length piece) piece ++ drop (length piece) (take (length buffer - done) (drop done buffer))
+    → take done buffer ++ (part ++ drop (length buffer - done) (drop done buffer)) ≡ placed_at done piece buffer
+kept buffer piece part done fits e =
+    let all : take (length buffer - done) (drop done buffer) ≡ drop done buffer =
+    take_all (length buffer - done) (drop done buffer) (omega (arith, length-drop done buffer)) in
+    let none : drop (length buffer - done) (drop done buffer) ≡ [] =
+    drop_of_length-le (drop done buffer) {i = length buffer - done} (omega (arith, length-drop done buffer)) in
+    rw (e, none, append-nil, all, take-length, drop-drop)
 
 -- one piece more, behind what has come
 came_more : {done n : ℕ} {before now after : List ℕ} → Came done before now → OneMore done now after n → Came (done + n) before after

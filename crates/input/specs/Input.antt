@@ -19,7 +19,7 @@ unfoldable pub NoneEmpty : List (List ℕ) → Type 0
 NoneEmpty [] = Unit {0}
 NoneEmpty (piece ∷ pieces) = (0 < length piece) × NoneEmpty pieces
 
--- what a read answers where it fails: -1
+-- what stands for the answer of a read that failed: -1
 abbrev pub failure : ℤ
 failure = negsuc 0
 

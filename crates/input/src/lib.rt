@@ -17,7 +17,7 @@ pub enum Input {
     Whole(usize),
     // The input is longer than the buffer, which holds its start.
     Longer,
-    // A read failed and answered this, so nothing is known of the input behind what was read.
+    // A read failed, and this stands for its answer: nothing is known of the input behind what was read.
     Failed(isize),
 }
 
@@ -28,7 +28,7 @@ enum Piece {
     Bytes(usize),
     // No byte: the input has ended.
     End,
-    // The read failed and answered this.
+    // The read failed, and this stands for its answer.
     Failed(isize),
 }
 
