@@ -120,29 +120,37 @@ add_counts() { # NAME STATUS FILE
     fi
 }
 
-# Adds one for each crate that `rt check` proved, each program of them run. Its last line is
-# `rt: ok, N crates proved`; anything else, and a crate of crates.txt that it did not count, is a failure.
-add_proved() { # STATUS FILE
-    local last listed
-    last=$(tail -n 1 "$2")
-    listed=$(grep -c '^[a-z0-9_]*:' crates.txt)
-    if [ "$1" -ne 0 ] || ! [[ $last =~ ^rt:\ ok,\ ([0-9]{1,9})\ crates\ proved$ ]]; then
-        fail "rt check: its last line is not 'rt: ok, N crates proved' (status $1)"
-    elif [ "${BASH_REMATCH[1]}" -ne "$listed" ]; then
-        fail "rt check: ${BASH_REMATCH[1]} crates proved, and crates.txt lists $listed"
-    else
-        passed=$((passed + listed))
+# Adds the counts of `rt ci`: one for each library and program proved, and for each must-fail edit refused. It does not count an
+# edit that it cannot apply or read, but says on its line `rt: ok` how many those are: here each is a failure. So are a line that is
+# missing, and a count that does not come to the crates of crates.txt and the edits of that line.
+add_ci() { # STATUS FILE
+    local had=$passed failures=$failed ok listed refused=0 bad=0
+    add_counts 'rt ci' "$1" "$2"
+    [ "$failed" -eq "$failures" ] || return
+    ok=$(grep '^rt: ok;' "$2") || { fail "rt ci: it has no line 'rt: ok'"; return; }
+    listed=$(grep -c '^[a-z0-9_][a-z0-9_ ]*:' crates.txt)
+    [[ $ok =~ \;\ must-fail\ edits:\ ([0-9]{1,9})\ refused ]] && refused=${BASH_REMATCH[1]}
+    [[ $ok =~ \;\ must-fail\ edits:\ [^\;]*,\ ([0-9]{1,9})\ bad ]] && bad=${BASH_REMATCH[1]}
+    if [ "$bad" -gt 0 ]; then
+        failed=$((failed + bad))
+        printf 'FAILED: rt ci: must-fail edits that it cannot try: %s\n' "$bad"
     fi
+    [ $((passed - had)) -eq $((listed + refused)) ] ||
+        fail "rt ci: it counts $((passed - had)), and crates.txt lists $listed, of whose edits $refused are refused"
+}
+
+# Prints what rt ci or rt must-fail said of a must-fail edit, nothing where it did not try it.
+said_of() { # EDIT FILE
+    local label=${1#crates/}
+    label="rt: must-fail ${label/\/must-fail\//\/}: "
+    awk -v label="$label" 'index($0, label) == 1 { print substr($0, length(label) + 1); exit }' "$2"
 }
 
 # Counts a failure for each must-fail edit that was not tried, as those of a crate that is not listed.
-count_untried() { # FILE: what tests/edits wrote
-    local edit label
+count_untried() { # FILE: what rt ci wrote
+    local edit
     for edit in crates/*/must-fail/*.edit; do
-        [ -e "$edit" ] || continue
-        label=${edit#crates/}
-        label=${label/\/must-fail\//\/}
-        grep -q -F "edit ${label%.edit}: " "$1" || fail "$edit: not tried"
+        [ ! -e "$edit" ] || [ -n "$(said_of "$edit" "$1")" ] || fail "$edit: not tried"
     done
 }
 
