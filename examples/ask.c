@@ -6,9 +6,9 @@
  * comes with a slip, the lines of reasoning that lead to it. Whoever doubts the verdict needs the bundle and the slip only,
  * and the check, which knows nothing of the search.
  *
- * To build it on x86-64, once `rt staticlib capi` has written the library:
+ * To build it on x86-64, once `rt lib` in crates/capi has written the library:
  *
- *     cc -I include -o ask examples/ask.c target/staticlib/libcapi.a */
+ *     cc -I include -o ask examples/ask.c crates/capi/out/libcapi.a */
 #include "portertrunk.h"
 #include <stdio.h>
 

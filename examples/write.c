@@ -5,9 +5,9 @@
  * It writes the house's first five credentials, appends the sixth, and asks whether Nina is a signer of the Archive before the
  * append and after it: the sixth credential is the one that says who a signer is.
  *
- * To build it on x86-64, once `rt staticlib capi` has written the library:
+ * To build it on x86-64, once `rt lib` in crates/capi has written the library:
  *
- *     cc -I include -o write_example examples/write.c target/staticlib/libcapi.a */
+ *     cc -I include -o write_example examples/write.c crates/capi/out/libcapi.a */
 #include "portertrunk.h"
 #include <stdio.h>
 

@@ -2,7 +2,7 @@
  * and who must hold a record.
  *
  * Ten functions, proved for every input: any bytes at all may be lent, and each call returns. Link
- * target/staticlib/libcapi.a, which `rt staticlib capi` writes (x86-64, System V calling convention).
+ * crates/capi/out/libcapi.a, which `rt lib` in crates/capi writes (x86-64, System V calling convention).
  *
  * A slice is passed as a pointer and the number of its elements. Where that number is 0 the pointer
  * may be anything. Nothing is kept after the call returns.
