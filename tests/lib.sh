@@ -128,7 +128,7 @@ add_ci() { # STATUS FILE
     add_counts 'rt ci' "$1" "$2"
     [ "$failed" -eq "$failures" ] || return
     ok=$(grep '^rt: ok;' "$2") || { fail "rt ci: it has no line 'rt: ok'"; return; }
-    listed=$(grep -c '^[a-z0-9_][a-z0-9_ ]*:' crates.txt)
+    listed=$(grep -c '^[^#[:space:]]' crates.txt)
     [[ $ok =~ \;\ must-fail\ edits:\ ([0-9]{1,9})\ refused ]] && refused=${BASH_REMATCH[1]}
     [[ $ok =~ \;\ must-fail\ edits:\ [^\;]*,\ ([0-9]{1,9})\ bad ]] && bad=${BASH_REMATCH[1]}
     if [ "$bad" -gt 0 ]; then
