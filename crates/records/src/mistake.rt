@@ -100,16 +100,10 @@ fn first_kind(entities: usize, names: usize, record: &[u8]) -> usize
 {
     let form = byte(record, 0);
     let parts = byte(record, 3);
-    let mut least: usize = Twelve::KINDS;
-    let mut i: usize = 0;
-    while i < Twelve::BYTES {
-        let kind = kind_at(entities, names, form, parts, i, byte(record, i));
-        if kind < least {
-            least = kind;
-        }
-        i += 1;
-    }
-    least
+    (0..Twelve::BYTES)
+        .map(|i| kind_at(entities, names, form, parts, i, byte(record, i)))
+        .min()
+        .unwrap_or(Twelve::KINDS)
 }
 
 // What is wrong with a record over so many entities and role names.
