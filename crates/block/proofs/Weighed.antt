@@ -1,6 +1,6 @@
 -- One more turn of the block check, from the last byte to the first: the running total and the total of the totals stay those of the bytes
 -- passed. Once all are passed they give the check.
-use Prim.Native.Nat.{ℕ, suc, ◌+◌, ◌-◌, ◌*◌, ◌%◌, ◌<◌, ◌≤◌}
+use Prim.Native.Nat.{ℕ, suc, ◌+◌, ◌*◌, ◌%◌, ◌<◌, ◌≤◌}
 use mathlib.Core.Path.{◌≡◌, refl, ap, ◌∙◌}
 use mathlib.Core.Bool.{not}
 use mathlib.Core.List.{List, [], ◌∷◌}
@@ -28,12 +28,11 @@ passed_more bytes i h =
     drop-cons (padded bytes 510) i 0 (omega (arith, length_padded bytes 510)) ∙ rw found
 
 -- the two bytes of a turn
-passed_two : (bytes : List ℕ) (i : ℕ) → 2 ≤ i → i ≤ 510
-    → passed bytes (i - 2) ≡ byte_at bytes (i - 2) ∷ byte_at bytes (i - 2 + 1) ∷ passed bytes i
-passed_two bytes i h l =
-    let second : suc (i - 2) ≡ i - 2 + 1 = omega arith in
-    let third : suc (i - 2 + 1) ≡ i = omega arith in
-    passed_more bytes (i - 2) (omega arith) ∙ rw (second, passed_more bytes (i - 2 + 1) (omega arith), third)
+passed_two : (bytes : List ℕ) (i : ℕ) → i + 2 ≤ 510 → passed bytes i ≡ byte_at bytes i ∷ byte_at bytes (i + 1) ∷ passed bytes (i + 2)
+passed_two bytes i l =
+    let second : suc i ≡ i + 1 = omega arith in
+    let third : suc (i + 1) ≡ i + 2 = omega arith in
+    passed_more bytes i (omega arith) ∙ rw (second, passed_more bytes (i + 1) (omega arith), third)
 
 -- before the first turn no byte is passed, and both totals are 0
 pub running_none : (bytes : List ℕ) → 0 ≡ running_total (passed bytes 510)
@@ -45,13 +44,13 @@ unfolding total_of_totals
 totals_none bytes = rw passed_none
 
 -- one turn: the running total grows by the later byte and then by the earlier, and the total of the totals by both running totals
-pub turned : (bytes : List ℕ) (i running totals later earlier : ℕ) → 2 ≤ i → i ≤ 510
+pub turned : (bytes : List ℕ) (i j running totals later earlier : ℕ) → i ≡ j + 2 → i ≤ 510
     → running ≡ running_total (passed bytes i) → totals ≡ 1 + total_of_totals (passed bytes i)
-    → later ≡ byte_at bytes (i - 2 + 1) → earlier ≡ byte_at bytes (i - 2)
-    → (running + later + earlier ≡ running_total (passed bytes (i - 2)))
-    × (totals + (running + later + (running + later + earlier)) ≡ 1 + total_of_totals (passed bytes (i - 2)))
+    → later ≡ byte_at bytes (j + 1) → earlier ≡ byte_at bytes j
+    → (running + later + earlier ≡ running_total (passed bytes j))
+    × (totals + (running + later + (running + later + earlier)) ≡ 1 + total_of_totals (passed bytes j))
 unfolding running_total total_of_totals
-turned bytes i running totals later earlier h l r t e f = rw (passed_two bytes i h l, r, t, e, f) (refl, omega arith)
+turned bytes i j running totals later earlier s l r t e f = rw (passed_two bytes j (omega arith), ← s, r, t, e, f) (refl, omega arith)
 
 -- all 510 bytes are passed
 totals_all : (bytes : List ℕ) → total_of_totals (passed bytes 0) ≡ weighed bytes 510

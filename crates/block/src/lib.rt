@@ -54,11 +54,9 @@ pub fn check(bytes: &[u8]) -> usize
 {
     let mut running: usize = 0;
     let mut totals: usize = 1;
-    let mut i: usize = Block::CHECK_PLACE;
-    while 0 < i {
-        i -= 2;
-        let later = byte(bytes, i + 1);
-        let earlier = byte(bytes, i);
+    for turn in (0..Block::CHECK_PLACE / 2).rev() {
+        let later = byte(bytes, 2 * turn + 1);
+        let earlier = byte(bytes, 2 * turn);
         let between = running + later;
         running = between + earlier;
         totals += between + running;
