@@ -21,12 +21,10 @@ pub(crate) fn bad_checks(bundle: &[u8], blocks: usize) -> u16
     ensures { result ≡ bits_below (bad_check bundle.now) blocks }
 {
     let mut word: u16 = 0;
-    let mut k: usize = 0;
-    while k < blocks {
+    for k in 0..blocks {
         if bad_check(bundle, k) {
-            word = word | (1u16 << k);
+            word |= 1u16 << k;
         }
-        k += 1;
     }
     word
 }

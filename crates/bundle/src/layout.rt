@@ -27,14 +27,7 @@ pub fn first_wrong(first: &[u8]) -> bool
     ensures { result ≡ first_wrong first.now }
 {
     let edition = edition_for(byte(first, 2)) as usize;
-    let mut i: usize = 0;
-    while i < Block::CHECK_PLACE {
-        if first_byte_wrong(first, edition, i) {
-            return true;
-        }
-        i += 1;
-    }
-    false
+    (0..Block::CHECK_PLACE).any(|i| first_byte_wrong(first, edition, i))
 }
 
 // The number of records in record block j + 1 of a bundle of n.
@@ -68,14 +61,7 @@ fn beside_wrong(bytes: &[u8], j: usize, records: usize) -> bool
     requires { (j < 7) × (records ≤ 40) }
     ensures { result ≡ beside_wrong j records bytes.now }
 {
-    let mut i: usize = 0;
-    while i < Block::CHECK_PLACE {
-        if beside_byte_wrong(bytes, j, records, i) {
-            return true;
-        }
-        i += 1;
-    }
-    false
+    (0..Block::CHECK_PLACE).any(|i| beside_byte_wrong(bytes, j, records, i))
 }
 
 // Whether the bytes beside the records of record block j + 1 of a bundle of n records are wrong.
@@ -93,12 +79,10 @@ pub(crate) fn lowest_bad_beside(bundle: &[u8], n: usize, blocks: usize) -> usize
     requires { (blocks ≤ 6) × (512 * (blocks + 1) ≤ length bundle.now) × (n ≡ records_of bundle.now) }
     ensures { result ≡ lowest (bad_beside bundle.now) blocks }
 {
-    let mut j: usize = 0;
-    while j < blocks {
+    for j in 0..blocks {
         if bad_beside(bundle, n, j) {
             return j;
         }
-        j += 1;
     }
-    j
+    blocks
 }

@@ -58,12 +58,10 @@ pub(crate) fn lowest_bad_record(bundle: &[u8], sizes: Sizes) -> usize
     ensures { result ≡ lowest (bad_record bundle.now) sizes.records }
 {
     let n = sizes.records;
-    let mut i: usize = 0;
-    while i < n {
+    for i in 0..n {
         if bad_record(bundle, sizes, i) {
             return i;
         }
-        i += 1;
     }
-    i
+    n
 }

@@ -1,12 +1,8 @@
 -- `bundle::checks::bad_checks` meets its contract. The invariant: the bits say of the first k blocks whether their checks differ.
-use Prim.Native.Nat.{◌-◌, ◌≤◌}
 use mathlib.Core.Path.{◌≡◌}
 use Rattle.bundle.specs.Layout.{bad_check}
 use Rattle.rt0.specs.Word.{bits_below}
 use Rattle.bundle.proofs.checks.bad_checks.Given as goal
 
 abbrev pub invariant-loop-k : goal.invariant-loop-k
-invariant-loop-k l = (l.k ≤ l.blocks) × (l.word ≡ bits_below (bad_check l.bundle) l.k)
-
-abbrev pub decreases-loop-k : goal.decreases-loop-k
-decreases-loop-k l = l.blocks - l.k
+invariant-loop-k l = (l.word ≡ bits_below (bad_check l.bundle) l.k)
