@@ -43,9 +43,6 @@ module _ (b : List ℕ) (size : length b ≡ 512) where
 
 -- bytes stored one after the other
 module _ (f : ℕ → ℕ) where
-  pub filled_none : (b : List ℕ) → length b ≡ 512 → Filled f 0 b
-  filled_none b e = record { size = e; bytes = λ k l. absurd (omega arith) }
-
   pub filled_more : (i x : ℕ) (b : List ℕ) → Filled f i b → i < 510 → x ≡ f i → Filled f (i + 1) (set b i x)
   filled_more i x b h l e = record { size = rw length-set h.size; bytes = λ k m. among k m (ℕ_discrete k i) }
     where

@@ -45,9 +45,6 @@ abbrev pub Continues : List ℕ → ℕ → List ℕ → List ℕ → Type 0
 Continues list j first after =
     (E R : ℕ) (marks before : List ℕ) → Begun (content_from E R marks list) before 1 first → Begun (content_from E R marks list) before (j + 1) after
 
-pub continues_none : (list first : List ℕ) → Continues list 0 first first
-continues_none list first E R marks before h = h
-
 pub continues_more : (list first middle after : List ℕ) (j : ℕ) → length list % 12 ≡ 0 → 512 * (j + 1) + 512 ≤ length first
     → Continues list j first middle → after ≡ replaced middle (j + 1) (sealed_block (listed_byte list j)) → Continues list (j + 1) first after
 continues_more list first middle after j whole room h e E R marks before begun =

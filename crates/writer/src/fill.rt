@@ -37,10 +37,8 @@ fn fill_first(bytes: &mut [u8], entities: u8, names: u8, count: u8, marks: &[u8]
     requires { length bytes.old ≡ 512 }
     ensures { bytes.new ≡ sealed_block (given_byte (edition_for names) entities names count marks.now) }
 {
-    let mut i: usize = 0;
-    while i < Block::CHECK_PLACE {
+    for i in 0..Block::CHECK_PLACE {
         bytes[i] = first_byte(entities, names, count, marks, i);
-        i += 1;
     }
     seal(bytes);
 }
@@ -66,10 +64,8 @@ fn fill_records(bytes: &mut [u8], records: &[u8], j: usize)
     requires { (length bytes.old ≡ 512) × (j < 6) }
     ensures { bytes.new ≡ sealed_block (listed_byte records.now j) }
 {
-    let mut i: usize = 0;
-    while i < Block::CHECK_PLACE {
+    for i in 0..Block::CHECK_PLACE {
         bytes[i] = listed_byte(records, j, i) as u8;
-        i += 1;
     }
     seal(bytes);
 }
@@ -95,9 +91,7 @@ pub(crate) fn fill(entities: u8, names: u8, marks: &[u8], records: &[u8], bundle
     let end = start + Block::SIZE;
     fill_first(&mut bundle[start..end], entities, names, count as u8, marks);
     let blocks = (count + 39) / Block::RECORDS;
-    let mut j: usize = 0;
-    while j < blocks {
+    for j in 0..blocks {
         fill_block(bundle, records, j);
-        j += 1;
     }
 }

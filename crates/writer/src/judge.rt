@@ -38,14 +38,7 @@ fn marks_wrong(entities: usize, marks: &[u8]) -> bool
     if marks.len() != Most::ENTITIES {
         return true;
     }
-    let mut i: usize = 0;
-    while i < Most::ENTITIES {
-        if mark_wrong(entities, i, byte(marks, i)) {
-            return true;
-        }
-        i += 1;
-    }
-    false
+    (0..Most::ENTITIES).any(|i| mark_wrong(entities, i, byte(marks, i)))
 }
 
 // Whether E, R or the marks are wrong.
@@ -102,14 +95,12 @@ fn lowest_wrong(entities: usize, names: usize, records: &[u8]) -> usize
     ensures { result ≡ lowest (wrong_listed entities names records.now) (whole_records records.now) }
 {
     let count = records.len() / Block::RECORD_SIZE;
-    let mut i: usize = 0;
-    while i < count {
+    for i in 0..count {
         if wrong_at(entities, names, records, i) {
             return i;
         }
-        i += 1;
     }
-    i
+    count
 }
 
 // What is wrong with a list of records: the paper's number and place, 0 and 0 for nothing.

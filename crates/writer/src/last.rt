@@ -29,10 +29,9 @@ fn put_record(bytes: &mut [u8], n: usize, record: &[u8])
     requires { (length bytes.old ≡ 512) × (n < 240) }
     ensures { Filled (placed n «record».now (byte_at bytes.old)) 510 bytes.new }
 {
-    let mut i: usize = Block::RECORD_SIZE * (n % Block::RECORDS);
-    while i < Block::CHECK_PLACE {
+    let start = Block::RECORD_SIZE * (n % Block::RECORDS);
+    for i in start..Block::CHECK_PLACE {
         bytes[i] = last_byte(record, n, i) as u8;
-        i += 1;
     }
 }
 
