@@ -35,14 +35,7 @@ fn byte_wrong(sheet: &[u8], names: usize, i: usize) -> bool
 fn layout_wrong(sheet: &[u8], names: usize) -> bool
     ensures { result ≡ layout_wrong names sheet.now }
 {
-    let mut i: usize = 0;
-    while i < Block::CHECK_PLACE {
-        if byte_wrong(sheet, names, i) {
-            return true;
-        }
-        i += 1;
-    }
-    false
+    (0..Block::CHECK_PLACE).any(|i| byte_wrong(sheet, names, i))
 }
 
 // Whether the bytes are a right sheet over so many names.
