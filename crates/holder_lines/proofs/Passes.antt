@@ -36,13 +36,6 @@ pub shelves_none : (w : ℕ) (before : List ℕ) (at : ℕ) → Wrote before at 
 unfolding shelves_text
 shelves_none w before at = wrote_none before at
 
--- all are passed
-pub shelves_done : (w n i : ℕ) → i ≤ n → n ≤ i → {before now : List ℕ} {at next : ℕ} → Wrote before at (shelves_text w i) now next
-    → Wrote before at (shelves_text w n) now next
-shelves_done w n i l m {before} {now} {at} {next} p =
-    let same : i ≡ n = omega arith in
-    subst (λ (k : ℕ). Wrote before at (shelves_text w k) now next) same p
-
 -- ---- the line of a record
 
 module _ (n : ℕ) (said : Storage) {before : List ℕ} {at : ℕ} where

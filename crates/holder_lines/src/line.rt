@@ -25,10 +25,8 @@ fn write_shelves(text: &mut [u8], at: usize, shelves: u32) -> usize
     ensures { Wrote text.old at (shelves_text shelves most_entities) text.new result }
 {
     let mut next = at;
-    let mut i = 0;
-    while i < Table::ENTITIES {
+    for i in 0..Table::ENTITIES {
         next = shelf(text, next, shelves, i);
-        i += 1;
     }
     next
 }

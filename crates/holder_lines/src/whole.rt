@@ -15,12 +15,10 @@ pub(crate) fn write_lines(bundle: &[u8], sheet: &[u8], records: usize, text: &mu
 {
     let mut next = 0;
     let mut well: u16 = 0;
-    let mut i = 0;
-    while i < records {
+    for i in 0..records {
         let said = stored(bundle, sheet, i + 1);
         next = write_line(text, next, (i + 1) as u16, said);
         well += well_one(said);
-        i += 1;
     }
     let ill = records as u16 - well;
     let tally = Tally {

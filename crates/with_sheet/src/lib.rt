@@ -23,13 +23,11 @@ fn loose_names(sheet: &[u8]) -> u32
     ensures { result ≡ loose_word sheet.now most_names }
 {
     let mut names: u32 = 0;
-    let mut i: usize = 0;
-    while i < Edition::MOST_NAMES {
+    for i in 0..Edition::MOST_NAMES {
         let code = code_of(sheet, i + 1);
         if (code == 1) | (code == 2) {
-            names = names | (1u32 << i);
+            names |= 1 << i;
         }
-        i += 1;
     }
     names
 }

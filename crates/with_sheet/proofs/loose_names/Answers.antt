@@ -1,9 +1,7 @@
 -- `with_sheet::loose_names` meets its contract. The invariant: the word is that of the first i names.
 use native.Mathlib.Omega.{arith}
-use borrow.Author.Rules.{rules}
-use mathlib.Core.Path.{◌≡◌, ◌∙◌}
+use mathlib.Core.Path.{◌∙◌}
 use Rattle.rt0.proofs.BitsBelow.{bits_none}
-use Rattle.bundle.specs.Edition.{most_names}
 use Rattle.with_sheet.specs.Open.{loose_word}
 use Rattle.with_sheet.proofs.Loosened.{loose_one, loose_other}
 use Rattle.with_sheet.proofs.loose_names.Goals as goal
@@ -11,20 +9,13 @@ use Rattle.with_sheet.proofs.loose_names.Goals.{then-code, else-code}
 
 pub loop-i-init : goal.loop-i-init
 unfolding loose_word
-loop-i-init c = (search rules, bits_none _)
+loop-i-init c = bits_none _
 
 pub loop-i-preserved : goal.loop-i-preserved
 loop-i-preserved c =
-    let e = c.loop-i.invariant.1 in
-    let is = c.code_of-code.ensures.0 in (
-      search rules,
-      elim c.if-code.branch [
-        | then-code w ↦ w.names-is ∙ loose_one _ _ _ _ e is (omega arith) w.if-code.true
-        | else-code w ↦ w.names-is ∙ loose_other _ _ _ _ e is w.if-code.false
-      ],
-    )
-
-pub returns : goal.returns
-returns c =
-    let e : c.loop-i.i ≡ most_names = omega arith in
-    rw (← e, c.loop-i.invariant.1)
+    let e = c.loop-i.invariant in
+    let is = c.code_of-code.ensures.0 in
+    elim c.if-code.branch [
+      | then-code w ↦ w.names-is ∙ loose_one _ _ _ _ e is (omega arith) w.if-code.true
+      | else-code w ↦ w.names-is ∙ loose_other _ _ _ _ e is w.if-code.false
+    ]

@@ -1,12 +1,7 @@
 -- `with_sheet::loose_names` meets its contract. The invariant: the word is that of the first i names.
-use Prim.Native.Nat.{◌-◌, ◌≤◌}
 use mathlib.Core.Path.{◌≡◌}
-use Rattle.bundle.specs.Edition.{most_names}
 use Rattle.with_sheet.specs.Open.{loose_word}
 use Rattle.with_sheet.proofs.loose_names.Given as goal
 
 abbrev pub invariant-loop-i : goal.invariant-loop-i
-invariant-loop-i l = (l.i ≤ most_names) × (l.names ≡ loose_word l.sheet l.i)
-
-abbrev pub decreases-loop-i : goal.decreases-loop-i
-decreases-loop-i l = most_names - l.i
+invariant-loop-i l = l.names ≡ loose_word l.sheet l.i

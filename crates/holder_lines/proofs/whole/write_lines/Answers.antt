@@ -1,28 +1,27 @@
 -- `holder_lines::whole::write_lines` meets its contract.
 use native.Mathlib.Omega.{arith}
 use mathlib.Core.Path.{refl, ◌∙◌}
-use borrow.Author.Rules.{rules}
 use Rattle.text.proofs.Written.{wrote_length}
 use Rattle.holder_lines.proofs.Passes.{few_well, passed_none, passed_few, passed_more, passed_end}
 use Rattle.holder_lines.proofs.whole.write_lines.Goals as goal
 
 pub loop-i-init : goal.loop-i-init
-loop-i-init c = (search rules, passed_none _ _)
+loop-i-init c = passed_none _ _
 
 pub overflow_add-well : goal.overflow_add-well
 overflow_add-well c =
-    omega (arith, c.loop-i.invariant.0, passed_few _ _ c.loop-i.invariant.1, c.well_one-well.ensures, few_well c.stored-said.result)
+    omega (arith, passed_few _ _ c.loop-i.invariant, c.well_one-well.ensures, few_well c.stored-said.result)
 
 pub loop-i-preserved : goal.loop-i-preserved
 loop-i-preserved c =
-    (search rules, passed_more _ c.loop-i.i _ c.stored-said.ensures c.loop-i.invariant.1 c.write_line-next.ensures c.well_one-well.ensures)
+    passed_more _ c.loop-i.i _ c.stored-said.ensures c.loop-i.invariant c.write_line-next.ensures c.well_one-well.ensures
 
 pub overflow_sub-ill : goal.overflow_sub-ill
-overflow_sub-ill c = omega (arith, c.loop-i.invariant.0, passed_few _ _ c.loop-i.invariant.1)
+overflow_sub-ill c = omega (arith, passed_few _ _ c.loop-i.invariant)
 
 pub shape_of-text : goal.shape_of-text
-shape_of-text c = wrote_length c.end_line.ensures ∙ wrote_length c.loop-i.invariant.1.wrote
+shape_of-text c = wrote_length c.end_line.ensures ∙ wrote_length c.loop-i.invariant.wrote
 
 pub returns : goal.returns
 returns c =
-    passed_end _ c.loop-i.i _ (omega arith) refl c.loop-i.invariant.1 c.end_line.ensures
+    passed_end _ c.loop-i.i _ (omega arith) refl c.loop-i.invariant c.end_line.ensures

@@ -1,11 +1,7 @@
 -- `holder_lines::whole::write_lines` meets its contract.
-use Prim.Native.Nat.{◌-◌, ◌≤◌}
 use Rattle.holder_lines.specs.Text.{said_in}
 use Rattle.holder_lines.specs.Passing.{Passed}
 use Rattle.holder_lines.proofs.whole.write_lines.Given as goal
 
 abbrev pub invariant-loop-i : goal.invariant-loop-i
-invariant-loop-i l = (l.i ≤ l.records) × Passed (said_in l.bundle l.sheet) l.i l.initial.text l.text l.next l.well
-
-abbrev pub decreases-loop-i : goal.decreases-loop-i
-decreases-loop-i l = l.records - l.i
+invariant-loop-i l = Passed (said_in l.bundle l.sheet) l.i l.initial.text l.text l.next l.well
