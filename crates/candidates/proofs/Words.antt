@@ -6,10 +6,10 @@ use mathlib.Core.Path.{◌≡◌, refl, ap, sym, ◌∙◌}
 use mathlib.Core.Bool.{Bool, true, false, ◌&&◌, true≢false}
 use mathlib.Core.List.{List, [], ◌∷◌}
 use lib.ListN.{length, take, drop, length-drop}
+use lib.Seq.{take_all}
 use lib.Dec.{eqb}
 use borrow.Author.Tests.{eq-eqb, eqb-true}
 use Rattle.base.specs.Byte.{byte_at}
-use Rattle.base.proofs.Parts.{part_is}
 use Rattle.candidates.specs.Candidate.{begins, digit, two_digits, number_at, behind}
 
 and_both : (a b : Bool) → (a && b) ≡ true → (a ≡ true) × (b ≡ true)
@@ -53,12 +53,13 @@ same_flag false false f g = refl
 
 module _ (line : List ℕ) (at : ℕ) (word : List ℕ) where
   -- what comparing found
-  pub word_found : (found : Bool) → (found ≡ true → take (at + length word - at) (drop at line) ≡ word)
-      → (take (at + length word - at) (drop at line) ≡ word → found ≡ true) → found ≡ begins word (drop at line)
+  pub word_found : (found : Bool) → (found ≡ true → word ≡ take (length word) (take (length line - at) (drop at line)))
+      → (word ≡ take (length word) (take (length line - at) (drop at line)) → found ≡ true) → found ≡ begins word (drop at line)
   word_found found there back =
-      let part = part_is line at (length word) in
-      same_flag found (begins word (drop at line)) (λ h. front_begins word (drop at line) (sym part ∙ there h))
-      (λ h. back (part ∙ begins_front word (drop at line) h))
+      let rest : take (length line - at) (drop at line) ≡ drop at line = take_all _ _ (omega (arith, length-drop at line)) in
+      let part = ap (take (length word)) rest in
+      same_flag found (begins word (drop at line)) (λ h. front_begins word (drop at line) (sym (there h ∙ part)))
+      (λ h. back (sym (begins_front word (drop at line) h) ∙ sym part))
 
   pub word_past : length line < at + length word → 0 < length word → false ≡ begins word (drop at line)
   word_past l some = sym (begins_short word (drop at line) (simp length-drop (omega arith)))

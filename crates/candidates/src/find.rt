@@ -9,12 +9,7 @@ fn has(line: &[u8], at: usize, word: &[u8]) -> bool
     requires { (at < 1000) × (0 < length word.now) × (length word.now < 1000) }
     ensures { result ≡ word_at line.now at word.now }
 {
-    let end = at + word.len();
-    if end <= line.len() {
-        check::same(&line[at..end], word)
-    } else {
-        false
-    }
+    at <= line.len() && line[at..].starts_with(word)
 }
 
 // Whether a byte is a digit.

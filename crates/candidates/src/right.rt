@@ -12,9 +12,7 @@ fn is_front(line: &[u8], text: &[u8], n: usize) -> bool
     requires { n ≤ length text.now }
     ensures { (result ≡ true) ↔ (line.now ≡ take n text.now) }
 {
-    let start = 0;
-    let end = start + n;
-    check::same(line, &text[start..end])
+    line == &text[..n]
 }
 
 // Whether a line is the line of a record.
