@@ -1,23 +1,22 @@
 -- The lines of a text, cut at its newlines: the first one and then those of the rest. The line of a credential has one newline, at its end, so
 -- the lines of a text of credentials are theirs.
-use Prim.Native.Nat.{ℕ, suc, ◌+◌, ◌<◌, ◌≤◌}
+use Prim.Native.Nat.{ℕ, suc, ◌+◌, ◌<◌}
 use native.Mathlib.Omega.{arith}
 use native.Mathlib.Nat.{zero-add}
-use native.Mathlib.Numerals.{add-one}
-use mathlib.Core.Path.{◌≡◌, refl, sym, ◌∙◌}
+use mathlib.Core.Path.{◌≡◌, refl, ap, sym, ◌∙◌}
 use mathlib.Core.Bool.{Bool, true, false, cond}
 use mathlib.Core.List.{List, [], ◌∷◌, ◌++◌, append_assoc}
-use lib.ListN.{length, get_or, take, drop, length-append, drop_of_length-le}
+use lib.ListN.{length, get_or, take, drop, length-append}
 use lib.Seq.{take_at, drop_at, drop-cons, drop-drop}
 use lib.Dec.{eqb}
-use borrow.Author.Tests.{ne_eqb, eq-eqb}
+use borrow.Author.Tests.{ne_eqb}
 use Rattle.rt0.specs.Credential.{Role, ◌·◌, Body, entity, role, link, intersection, Credential, ◌⟵◌, ◌∈◌}
 use mathlib.Core.List.Memᴰ
 use Rattle.text.specs.Ascii.{newline}
 use Rattle.text.specs.Decimal.{decimal}
 use Rattle.text.proofs.Decimal.{only_digits}
 use Rattle.spelling.specs.Line.{arrow, ampersand, entity_text, name_text, role_text, parts_text, body_text, line_of}
-use Rattle.letters.specs.Lines.{in_front, lines_of, first_length}
+use Rattle.letters.specs.Lines.{in_front, lines_of, line_count, line_at, first_length}
 
 -- the first line of a text that has any, and the lines behind it
 pub first_line : (b : ℕ) (text : List ℕ)
@@ -42,33 +41,16 @@ pub next_line : (text : List ℕ) (at : ℕ) → at < length text
 next_line text at l =
     rw (← drop-drop (first_length (drop at text)) at text, drop-cons text at 0 l) (first_line (get_or text at 0) (drop (suc at) text))
 
--- where something is left, the first line has a byte
-pub first_some : (text : List ℕ) (at : ℕ) → at < length text → 0 < first_length (drop at text)
-unfolding first_length
-first_some text at l = rw (drop-cons text at 0 l) (by (eqb (get_or text at 0) 10))
-  where
-    by : (t : Bool) → 0 < cond t 1 (suc (first_length (drop (suc at) text)))
-    by true = omega arith
-    by false = omega arith
-
--- nothing left: no line
-pub no_line : (text : List ℕ) (at : ℕ) → length text ≤ at → lines_of (drop at text) ≡ []
+-- the first line of a text that has one
+pub line_first : (text : List ℕ) → 0 < line_count text → line_at text 0 ≡ take (first_length text) text
 unfolding lines_of
-no_line text at l = rw (drop_of_length-le text l)
+line_first [] some = absurd (omega arith)
+line_first (b ∷ text) some = ap (λ (ls : List (List ℕ)). get_or ls 0 []) (first_line b text)
 
--- how far the first line goes, byte by byte
-module _ (text : List ℕ) (i : ℕ) where
-  pub end_here : i < length text → get_or text i 0 ≡ 10 → first_length (drop i text) ≡ 1
-  unfolding first_length
-  end_here l e = rw (drop-cons text i 0 l, eq-eqb (get_or text i 0) 10 e)
-
-  pub end_later : i < length text → (get_or text i 0 ≡ 10 → ⊥) → first_length (drop i text) ≡ suc (first_length (drop (i + 1) text))
-  unfolding first_length
-  end_later l h = rw (add-one i, drop-cons text i 0 l, ne_eqb (get_or text i 0) 10 h)
-
-  pub end_none : length text ≤ i → first_length (drop i text) ≡ 0
-  unfolding first_length
-  end_none l = rw (drop_of_length-le text l)
+-- a text without a line has no bytes
+pub none_left : (text : List ℕ) → line_count text ≡ 0 → text ≡ []
+none_left [] e = refl
+none_left (b ∷ text) e = absurd (omega (arith, ap length (first_line b text)))
 
 -- Bytes without a newline.
 

@@ -1,11 +1,12 @@
 -- Storing the records of a text line by line, and storing the lines of a list of records: what is known at each step, and at the end.
-use Prim.Native.Nat.{ℕ, zero, suc, ◌+◌, ◌-◌, ◌*◌, ◌<◌, ◌≤◌, min}
+use Prim.Native.Nat.{ℕ, zero, suc, ◌+◌, ◌*◌, ◌<◌, ◌≤◌, min}
 use native.Mathlib.Omega.{arith}
 use native.Mathlib.Numerals.{add-one}
 use mathlib.Core.Path.{◌≡◌, refl, ap, sym, subst, ◌∙◌}
 use mathlib.Core.List.Memᴰ
 use mathlib.Core.List.{List, [], ◌∷◌, ◌++◌, append_assoc, append-nil}
-use lib.ListN.{length, take, drop, length-append}
+use lib.ListN.{length, get_or, take, length-append}
+use lib.Seq.{take_all}
 use Rattle.rt0.specs.Credential.{Credential, AllValid}
 use Rattle.records.specs.Bytes.{credential_in}
 use Rattle.content.specs.Content.{tabulate, listed}
@@ -14,47 +15,40 @@ use Rattle.text.proofs.Written.{wrote_none, wrote_more}
 use Rattle.spelling.specs.Line.{line_of, most_bytes}
 use Rattle.candidates.specs.Candidate.{candidate_of}
 use Rattle.candidates.proofs.Unique.{candidate_is}
-use Rattle.letters.specs.Lines.{text_of, records_of, lines_of, first_length, candidates_of, counted_bytes}
-use Rattle.letters.proofs.Cut.{next_line, no_line, lines_more}
+use Rattle.letters.specs.Lines.{text_of, records_of, lines_of, line_count, candidates_of, counted_bytes}
+use Rattle.letters.proofs.Cut.{lines_more}
 use Rattle.letters.proofs.Texts.{text_last}
 
 -- Records.
 
--- the records of the lines up to a place are stored
-pub record Filling (text before : List ℕ) (at place : ℕ) (after : List ℕ) : Type 0 where
-  pub done : List ℕ
-  pub wrote : Wrote before 0 done after place
-  pub rest : done ++ candidates_of (lines_of (drop at text)) ≡ candidates_of (lines_of text)
+-- the records of the first n lines
+abbrev pub candidates_to : List ℕ → ℕ → List ℕ
+candidates_to text n = candidates_of (take n (lines_of text))
 
-pub filling_none : (text before : List ℕ) → Filling text before 0 0 before
-filling_none text before = record { done = []; wrote = wrote_none before 0; rest = refl }
+candidates_last : (ls : List (List ℕ)) (n : ℕ) (line : List ℕ) → n < length ls → line ≡ get_or ls n line
+    → candidates_of (take (suc n) ls) ≡ candidates_of (take n ls) ++ candidate_of line
+unfolding candidates_of
+candidates_last [] n line l e = absurd (omega arith)
+candidates_last (first ∷ ls) zero line l e = append-nil (candidate_of first) ∙ ap candidate_of (sym e)
+candidates_last (first ∷ ls) (suc n) line l e =
+    ap (λ (bytes : List ℕ). candidate_of first ++ bytes) (candidates_last ls n line (omega arith) e)
+    ∙ sym (append_assoc (candidate_of first) (candidates_of (take n ls)) (candidate_of line))
 
-module _ (text before : List ℕ) (at place : ℕ) (after : List ℕ) (h : Filling text before at place after) where
-  pub filling_more : at < length text → (end : ℕ) → end ≡ at + first_length (drop at text) → (then : List ℕ) (next : ℕ)
-      → Wrote after place (candidate_of (take (end - at) (drop at text))) then next → Filling text before end next then
-  unfolding candidates_of
-  filling_more left end e then next w =
-      let line = take (end - at) (drop at text) in
-      let long : first_length (drop at text) ≡ end - at = omega arith in
-      let lines : lines_of (drop at text) ≡ line ∷ lines_of (drop end text) =
-      next_line text at left
-      ∙ ap (λ (n : ℕ). take n (drop at text) ∷ lines_of (drop (at + first_length (drop at text)) text)) long
-      ∙ ap (λ (n : ℕ). line ∷ lines_of (drop n text)) (sym e) in
-      record {
-        done = h.done ++ candidate_of line;
-        wrote = wrote_more h.wrote w;
-        rest =
-            append_assoc h.done (candidate_of line) (candidates_of (lines_of (drop end text)))
-            ∙ ap (λ (ls : List (List ℕ)). h.done ++ candidates_of ls) (sym lines)
-            ∙ h.rest;
-      }
+-- they are stored
+pub filling_none : (text before : List ℕ) → Wrote before 0 (candidates_to text 0) before 0
+unfolding candidates_of
+filling_none text before = wrote_none before 0
 
-  pub filling_all : length text ≤ at → Wrote before 0 (candidates_of (lines_of text)) after place
-  unfolding candidates_of
-  filling_all none =
-      let all : h.done ≡ candidates_of (lines_of text) =
-      sym (append-nil h.done) ∙ ap (λ (ls : List (List ℕ)). h.done ++ candidates_of ls) (sym (no_line text at none)) ∙ h.rest in
-      subst (λ (bytes : List ℕ). Wrote before 0 bytes after place) all h.wrote
+module _ (text : List ℕ) {before after : List ℕ} {place n : ℕ} (w : Wrote before 0 (candidates_to text n) after place) where
+  pub filling_more : (line : List ℕ) {then : List ℕ} {next : ℕ} → (n < line_count text) × (line ≡ get_or (lines_of text) n line)
+      → Wrote after place (candidate_of line) then next → Wrote before 0 (candidates_to text (n + 1)) then next
+  filling_more line {then} {next} (l, e) v =
+      subst (λ (bytes : List ℕ). Wrote before 0 bytes then next)
+      (sym (candidates_last (lines_of text) n line l e) ∙ ap (candidates_to text) (sym (add-one n))) (wrote_more w v)
+
+  pub filling_all : n ≡ line_count text → Wrote before 0 (candidates_of (lines_of text)) after place
+  filling_all e =
+      subst (λ (bytes : List ℕ). Wrote before 0 bytes after place) (ap candidates_of (take_all n (lines_of text) (omega arith))) w
 
 -- the candidates of the lines of valid credentials are their records
 pub candidates_are : (E R : ℕ) → E < 100 → R < 100 → (cs : List Credential) → AllValid E R cs → candidates_of (lines_of (text_of cs)) ≡ records_of cs

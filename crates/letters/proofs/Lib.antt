@@ -1,8 +1,9 @@
--- The laws of letters. Cut: the lines of a text. Texts: texts of credentials. Reading, Writing: a text and a list of records judged
+-- The laws of letters. Cut: the lines of a text. Coming: what the iterators give. Texts: texts of credentials. Reading, Writing: a text and a list of records judged
 -- stage by stage. Filling: what is stored, step by step. Clear: what it comes to that no row applies. Kept: from these to what is promised.
 -- Refused: each refusal exactly when it is due. Determined: any two answers are equal. Listed: records of credentials. Back: reading what was written,
 -- and writing what was read. Empty: no text and no records. Places: how far a place and a length can be.
 pub mod Cut
+pub mod Coming
 pub mod Texts
 pub mod Reading
 pub mod Filling

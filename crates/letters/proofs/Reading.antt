@@ -1,13 +1,12 @@
--- A text judged: E and R first, then line by line. What is known where a line begins, how it goes on there, and the three ways in which it ends.
-use Prim.Native.Nat.{ℕ, ◌+◌, ◌-◌, ◌*◌, ◌<◌, ◌≤◌}
+-- A text judged: E and R first, then line by line. What is known of the lines passed, how it goes on at the next, and the three ways in which it ends.
+use Prim.Native.Nat.{ℕ, ◌+◌, ◌*◌, ◌<◌, ◌≤◌}
 use native.Mathlib.Omega.{arith}
 use native.Mathlib.Numerals.{add-one}
 use mathlib.Core.Path.{◌≡◌, refl, ap, sym, subst, ◌∙◌}
 use mathlib.Core.Bool.{true, false}
 use mathlib.Core.Logic.{inl, inr}
 use mathlib.Core.List.{List, [], ◌∷◌, ◌++◌, append_assoc, append-nil}
-use lib.ListN.{length, get_or, take, drop, length-append, take-append-drop, drop_of_length-le}
-use lib.Seq.{drop-drop}
+use lib.ListN.{length, take, drop, length-append, take-append-drop}
 use Rattle.rt0.specs.Credential.{Credential, AllValid}
 use Rattle.base.specs.Range.{outside}
 use Rattle.base.specs.Refusals.{AtPlace, FromOne, refused, passed}
@@ -21,73 +20,63 @@ use Rattle.spelling.specs.Line.{line_of, RightLine}
 use Rattle.letters.specs.Lines.{text_of, line_count, line_at, first_length}
 use Rattle.letters.specs.Rows.{OutOfRange, out_of_range, FirstWrong, room_rows, line_rows, read_rows}
 use Rattle.letters.specs.Promise.{Says, Letter, JudgedText}
-use Rattle.letters.proofs.Cut.{next_line, no_line}
+use Rattle.letters.proofs.Cut.{line_first, none_left}
 use Rattle.letters.proofs.Texts.{valid_none, valid_last, text_last, front_count, front_next, front_right}
 
--- the lines up to a place are those of credentials that are valid
-pub record Passed (E R : ℕ) (text : List ℕ) (at lines : ℕ) : Type 0 where
+-- the first lines are those of credentials that are valid
+pub record Passed (E R : ℕ) (text : List ℕ) (lines : ℕ) : Type 0 where
   pub so_far : List Credential
+  pub left : List ℕ
   pub valid : AllValid E R so_far
-  pub split : text ≡ text_of so_far ++ drop at text
+  pub split : text ≡ text_of so_far ++ left
   pub count : length so_far ≡ lines
 
 module _ (E R : ℕ) (text : List ℕ) where
-  pub passed_none : Passed E R text 0 0
+  pub passed_none : Passed E R text 0
   unfolding text_of
-  passed_none = record { so_far = []; valid = valid_none E R; split = refl; count = refl }
+  passed_none = record { so_far = []; left = text; valid = valid_none E R; split = refl; count = refl }
 
-  module _ (at lines : ℕ) (h : Passed E R text at lines) where
-    -- one right line more
-    pub passed_more : (end : ℕ) → at ≤ end → RightLine E R (take (end - at) (drop at text)) → Passed E R text end (lines + 1)
-    passed_more end l (c, v, e) =
-        let whole : at + (end - at) ≡ end = omega arith in
-        let rest : drop at text ≡ line_of c ++ drop end text =
-        sym (take-append-drop (end - at) (drop at text))
-        ∙ ap (λ (line : List ℕ). line ++ drop (end - at) (drop at text)) e
-        ∙ ap (λ (left : List ℕ). line_of c ++ left) (drop-drop (end - at) at text ∙ ap (λ (k : ℕ). drop k text) whole) in
-        record {
-          so_far = h.so_far ++ (c ∷ []);
-          valid = valid_last E R h.so_far c h.valid v;
-          split =
-              h.split
-              ∙ ap (λ (left : List ℕ). text_of h.so_far ++ left) rest
-              ∙ sym (append_assoc (text_of h.so_far) (line_of c) (drop end text))
-              ∙ ap (λ (front : List ℕ). front ++ drop end text) (sym (text_last h.so_far c));
-          count = rw length-append (omega (arith, h.count));
-        }
-
+  module _ (lines : ℕ) (h : Passed E R text lines) where
     -- the lines passed are right
     before_right : (j : ℕ) → j < lines → RightLine E R (line_at text j)
     before_right j l =
-        subst (λ (t : List ℕ). RightLine E R (line_at t j)) (sym h.split) (front_right E R h.so_far (drop at text) h.valid j (omega (arith, h.count)))
+        subst (λ (t : List ℕ). RightLine E R (line_at t j)) (sym h.split) (front_right E R h.so_far h.left h.valid j (omega (arith, h.count)))
 
-    counted : line_count text ≡ lines + line_count (drop at text)
-    counted = ap line_count h.split ∙ front_count h.so_far (drop at text) ∙ ap (λ (n : ℕ). n + line_count (drop at text)) h.count
+    counted : line_count text ≡ lines + line_count h.left
+    counted = ap line_count h.split ∙ front_count h.so_far h.left ∙ ap (λ (n : ℕ). n + line_count h.left) h.count
 
-    module _ (left : at < length text) where
-      -- the line that begins here
-      here : line_at text lines ≡ take (first_length (drop at text)) (drop at text)
+    module _ (more : lines < line_count text) where
+      -- the line that is next
+      here : line_at text lines ≡ take (first_length h.left) h.left
       here =
           ap (λ (t : List ℕ). line_at t lines) h.split
-          ∙ ap (line_at (text_of h.so_far ++ drop at text)) (sym h.count)
-          ∙ front_next h.so_far (drop at text)
-          ∙ ap (λ (ls : List (List ℕ)). get_or ls 0 []) (next_line text at left)
+          ∙ ap (line_at (text_of h.so_far ++ h.left)) (sym h.count)
+          ∙ front_next h.so_far h.left
+          ∙ line_first h.left (omega (arith, counted))
 
-      more : lines < line_count text
-      more = omega (arith, counted, ap length (next_line text at left))
+      -- one right line more
+      pub passed_more : RightLine E R (line_at text lines) → Passed E R text (lines + 1)
+      passed_more (c, v, e) =
+          let behind = drop (first_length h.left) h.left in
+          let rest : h.left ≡ line_of c ++ behind =
+          sym (take-append-drop (first_length h.left) h.left) ∙ ap (λ (line : List ℕ). line ++ behind) (sym here ∙ e) in
+          record {
+            so_far = h.so_far ++ (c ∷ []);
+            left = behind;
+            valid = valid_last E R h.so_far c h.valid v;
+            split =
+                h.split
+                ∙ ap (λ (left : List ℕ). text_of h.so_far ++ left) rest
+                ∙ sym (append_assoc (text_of h.so_far) (line_of c) behind)
+                ∙ ap (λ (front : List ℕ). front ++ behind) (sym (text_last h.so_far c));
+            count = rw length-append (omega (arith, h.count));
+          }
 
       -- it is wrong
-      pub text_wrong : (size : ℕ) → lines < 240 → (end : ℕ) → end ≡ at + first_length (drop at text)
-          → (RightLine E R (take (end - at) (drop at text)) → ⊥) → JudgedText (line_rows E R text size) E R text (Refused 14 (lines + 1))
-      text_wrong size among end e wrong =
-          let long : end - at ≡ first_length (drop at text) = omega arith in
-          let first : FirstWrong E R text lines =
-          record {
-            there = more;
-            among = among;
-            wrong = λ right. wrong (subst (λ (line : List ℕ). RightLine E R line) (here ∙ ap (λ (n : ℕ). take n (drop at text)) (sym long)) right);
-            before = before_right;
-          } in
+      pub text_wrong : (size : ℕ) → lines < 240 → (RightLine E R (line_at text lines) → ⊥)
+          → JudgedText (line_rows E R text size) E R text (Refused 14 (lines + 1))
+      text_wrong size among wrong =
+          let first : FirstWrong E R text lines = record { there = more; among = among; wrong = wrong; before = before_right } in
           refused (inl (refl, (lines, add-one lines, first))) tt
 
       -- it follows line 240
@@ -96,13 +85,10 @@ module _ (E R : ℕ) (text : List ℕ) where
           refused (inr (λ (_, (k, _, first)). first.wrong (before_right k (omega (arith, first.among))), inl (refl, (refl, omega (arith, more))))) tt
 
     -- there is none
-    pub text_whole : (size : ℕ) → length text ≤ at → lines ≤ 240 → (r : Wrote) → Says (room_rows lines size) r (12 * lines)
+    pub text_whole : (size : ℕ) → lines ≡ line_count text → lines ≤ 240 → (r : Wrote) → Says (room_rows lines size) r (12 * lines)
         → JudgedText (line_rows E R text size) E R text r
-    text_whole size none few r says = by (subst (λ (n : ℕ). Says (room_rows n size) r (12 * n)) (sym same) says)
+    text_whole size all few r says = by (subst (λ (n : ℕ). Says (room_rows n size) r (12 * n)) all says)
       where
-        same : line_count text ≡ lines
-        same = counted ∙ ap (λ (ls : List (List ℕ)). lines + length ls) (no_line text at none) ∙ omega arith
-
         letter : Letter E R text
         letter =
             record {
@@ -110,15 +96,15 @@ module _ (E R : ℕ) (text : List ℕ) where
               valid = h.valid;
               text_is =
                   h.split
-                  ∙ ap (λ (left : List ℕ). text_of h.so_far ++ left) (drop_of_length-le text none)
+                  ∙ ap (λ (left : List ℕ). text_of h.so_far ++ left) (none_left h.left (omega (arith, counted)))
                   ∙ append-nil (text_of h.so_far);
             }
 
         right : (p : ℕ) × FromOne (FirstWrong E R text) p → ⊥
-        right (_, (k, _, first)) = first.wrong (before_right k (omega (arith, first.there, same)))
+        right (_, (k, _, first)) = first.wrong (before_right k (omega (arith, first.there)))
 
         not_many : (p : ℕ) × AtPlace 241 (240 < line_count text) p → ⊥
-        not_many (_, (_, l)) = omega (arith, same)
+        not_many (_, (_, l)) = omega arith
 
         by : Says (room_rows (line_count text) size) r (12 * line_count text) → JudgedText (line_rows E R text size) E R text r
         by (refused d k) = refused (inr (right, inr (not_many, d))) tt

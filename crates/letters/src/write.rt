@@ -1,9 +1,7 @@
 // A letter written from records: first judged record by record, then the lines stored.
-ghost use Rattle.std.specs.Prelude.{◌≡◌, ◌+◌, ◌*◌, ◌≤◌, min, length as length_of_list};
-ghost use Rattle.records.specs.Bytes.{credential_in};
-ghost use Rattle.content.specs.Content.{listed, whole_records};
+ghost use Rattle.std.specs.Prelude.{◌≡◌, ◌≤◌, length as length_of_list};
+ghost use Rattle.content.specs.Content.{whole_records};
 ghost use Rattle.text.specs.Written.{Wrote as WroteFrom};
-ghost use Rattle.spelling.specs.Line.{line_of, most_bytes};
 ghost use Rattle.letters.specs.Lines.{text_of, credentials_in, counted_bytes, ShortLines};
 ghost use Rattle.letters.specs.Rows.{text_rows, write_rows};
 ghost use Rattle.letters.specs.Promise.{Says, Writes};
@@ -14,27 +12,14 @@ use spelling::{line_length, put_line};
 use writer::answer::Wrote;
 use writer::judge::{Most, flaw_of};
 
-// The number of bytes of the line of record i of a list.
-fn length_listed(records: &[u8], i: usize) -> usize
-    requires { 12 * i + 12 ≤ length_of_list records.now }
-    ensures { result ≡ min most_bytes (length_of_list (line_of (credential_in (listed records.now i)))) }
-{
-    let start = Block::RECORD_SIZE * i;
-    let end = start + Block::RECORD_SIZE;
-    line_length(&records[start..end])
-}
-
 // The number of bytes of the lines of a list.
 fn text_length(records: &[u8]) -> usize
     requires { whole_records records.now ≤ 240 }
     ensures { result ≡ counted_bytes records.now (whole_records records.now) }
 {
-    let count = records.len() / Block::RECORD_SIZE;
     let mut total: usize = 0;
-    let mut i: usize = 0;
-    while i < count {
-        total += length_listed(records, i);
-        i += 1;
+    for record in records.chunks_exact(Block::RECORD_SIZE) {
+        total += line_length(record);
     }
     total
 }
@@ -86,26 +71,13 @@ fn judge_records(entities: usize, names: usize, records: &[u8], size: usize) -> 
     judge_room(records, size)
 }
 
-// The line of record i of a list, stored from a place on.
-fn put_listed(text: &mut [u8], at: usize, records: &[u8], i: usize) -> usize
-    requires { 12 * i + 12 ≤ length_of_list records.now }
-    ensures { WroteFrom text.old at (line_of (credential_in (listed records.now i))) text.new result }
-{
-    let start = Block::RECORD_SIZE * i;
-    let end = start + Block::RECORD_SIZE;
-    put_line(text, at, &records[start..end])
-}
-
 // The lines of all records, stored from the front on.
 fn fill_text(text: &mut [u8], records: &[u8]) -> usize
     ensures { WroteFrom text.old 0 (text_of (credentials_in records.now)) text.new result }
 {
-    let count = records.len() / Block::RECORD_SIZE;
     let mut at: usize = 0;
-    let mut i: usize = 0;
-    while i < count {
-        at = put_listed(text, at, records, i);
-        i += 1;
+    for record in records.chunks_exact(Block::RECORD_SIZE) {
+        at = put_line(text, at, record);
     }
     at
 }

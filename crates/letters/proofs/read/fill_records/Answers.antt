@@ -1,32 +1,29 @@
 -- `letters::read::fill_records` meets its contract. The invariant: the records of the lines passed are stored.
-use native.Mathlib.Omega.{arith}
+use mathlib.Core.Path.{ap, sym}
 use borrow.Author.Rules.{rules}
-use Rattle.text.proofs.Written.{wrote_length}
-use Rattle.letters.proofs.Cut.{first_some}
-use Rattle.letters.proofs.Filling.{filling_none, filling_more, filling_all}
+use Rattle.std.proofs.lemmas.Iterator.Consumers.{YieldsList-turn, YieldsList-end}
+use Rattle.std.proofs.lemmas.List.{length_push}
+use Rattle.spelling.proofs.Texts.{wrote_as}
+use Rattle.letters.proofs.Coming.{lines_come}
+use Rattle.letters.proofs.Filling.{candidates_to, filling_none, filling_more, filling_all}
 use Rattle.letters.proofs.read.fill_records.Goals as goal
 
-pub loop-at-init : goal.loop-at-init
-loop-at-init c = (search rules, filling_none _ _)
+pub loop-line-init : goal.loop-line-init
+loop-line-init c = filling_none c.args.text.now _
 
-pub loop-at-smaller : goal.loop-at-smaller
-loop-at-smaller c =
-    let args = c.args in
-    omega (arith, c.line_end-end.ensures.0, first_some args.text.now c.loop-at.at c.loop-at-test.true)
-
-pub loop-at-preserved : goal.loop-at-preserved
-loop-at-preserved c =
-    let args = c.args in
-    let end = c.line_end-end in (
-      search rules,
-      filling_more args.text.now args.records.now c.loop-at.at c.loop-at.place _ c.loop-at.invariant.1
-          c.loop-at-test.true end.result end.ensures.0 _ _ c.store_record-place.ensures,
-    )
-
-pub shape_of-records : goal.shape_of-records
-shape_of-records c = wrote_length c.loop-at.invariant.1.wrote
+pub loop-line-preserved : goal.loop-line-preserved
+loop-line-preserved c =
+    let text = c.args.text.now in
+    let turn =
+    YieldsList-turn (lines_come _ text (search rules) (search rules) (λ x b q k. search rules)) c.loop-line.yielded _ c.loop-line.yielded_by
+    _ _ c.in-Some.line c.in-Some.is c.next.ensures.steps in
+    wrote_as (ap (candidates_to text) (sym (length_push c.loop-line.yielded c.in-Some.line)))
+    (filling_more text c.loop-line.invariant c.in-Some.line.now turn (wrote_as c.candidate.ensures c.word-place.ensures))
 
 pub returns : goal.returns
 returns c =
-    let args = c.args in
-    filling_all args.text.now args.records.now c.loop-at.at c.loop-at.place _ c.loop-at.invariant.1 c.loop-at-test.false
+    let text = c.args.text.now in
+    let end =
+    YieldsList-end (lines_come _ text (search rules) (search rules) (λ x b q k. search rules)) c.loop-line.yielded _ c.loop-line.yielded_by
+    _ _ c.in-None.is c.next.ensures.steps in
+    filling_all text c.loop-line.invariant end.1

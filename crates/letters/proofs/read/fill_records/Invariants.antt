@@ -1,11 +1,8 @@
 -- `letters::read::fill_records` meets its contract. The invariant: the records of the lines passed are stored.
-use Prim.Native.Nat.{◌-◌, ◌≤◌}
 use lib.ListN.{length}
-use Rattle.letters.proofs.Filling.{Filling}
+use Rattle.text.specs.Written.{Wrote}
+use Rattle.letters.proofs.Filling.{candidates_to}
 use Rattle.letters.proofs.read.fill_records.Given as goal
 
-abbrev pub invariant-loop-at : goal.invariant-loop-at
-invariant-loop-at l = (l.at ≤ length l.text) × Filling l.text l.initial.records l.at l.place l.records
-
-abbrev pub decreases-loop-at : goal.decreases-loop-at
-decreases-loop-at l = length l.text - l.at
+abbrev pub invariant-loop-line : goal.invariant-loop-line
+invariant-loop-line l = Wrote l.initial.records 0 (candidates_to l.text (length l.yielded)) l.records l.place

@@ -1,26 +1,27 @@
 -- `letters::write::fill_text` meets its contract.
-use Rattle.letters.proofs.Filling.{text_to, putting_none, putting_more}
-use Rattle.spelling.proofs.Texts.{wrote_as}
-use Rattle.text.proofs.Written.{wrote_length}
-use Rattle.content.specs.Content.{whole_records}
-use mathlib.Core.Path.{◌≡◌, ap}
 use native.Mathlib.Omega.{arith}
+use mathlib.Core.Path.{ap, sym}
+use lib.ListN.{length}
 use borrow.Author.Rules.{rules}
+use Rattle.std.proofs.lemmas.List.{length_push}
+use Rattle.records.specs.Bytes.{credential_in}
+use Rattle.spelling.specs.Line.{line_of}
+use Rattle.spelling.proofs.Texts.{wrote_as}
+use Rattle.letters.proofs.Coming.{record_comes}
+use Rattle.letters.proofs.Filling.{text_to, putting_none, putting_more}
 use Rattle.letters.proofs.write.fill_text.Goals as goal
 
-pub loop-i-init : goal.loop-i-init
-loop-i-init c = (search rules, putting_none _ _)
+pub loop-record-init : goal.loop-record-init
+loop-record-init c = (omega arith, putting_none _ _)
 
-pub loop-i-preserved : goal.loop-i-preserved
-loop-i-preserved c =
-    let args = c.args in
-    (search rules, putting_more args.records.now args.text.now _ _ _ _ c.loop-i.i c.loop-i.invariant.1 c.put_listed-at.ensures)
-
-pub shape_of-text : goal.shape_of-text
-shape_of-text c = wrote_length c.loop-i.invariant.1
-
-pub returns : goal.returns
-returns c =
+pub loop-record-preserved : goal.loop-record-preserved
+loop-record-preserved c =
     let records = c.args.records.now in
-    let all : c.loop-i.i ≡ whole_records records = omega arith in
-    wrote_as (ap (text_to records) all) c.loop-i.invariant.1
+    let before = c.loop-record.yielded in
+    let turn =
+    record_comes records _ before _ (search rules) (search rules) c.loop-record.yielded_by _ _ c.in-Some.record c.in-Some.is c.next.ensures.steps in (
+      omega (arith, turn.1, length_push before c.in-Some.record),
+      wrote_as (ap (text_to records) (sym (length_push before c.in-Some.record)))
+          (putting_more records c.args.text.now _ _ _ _ (length before) c.loop-record.invariant.1
+          (wrote_as (ap (λ bytes. line_of (credential_in bytes)) turn.0) c.put_line-at.ensures)),
+    )

@@ -1,11 +1,11 @@
 -- `letters::write::fill_text` meets its contract.
-use Rattle.letters.proofs.Filling.{text_to}
+use Prim.Native.Nat.{◌≤◌}
+use lib.ListN.{length}
+use Rattle.content.specs.Content.{whole_records}
 use Rattle.text.specs.Written.{Wrote}
-use Prim.Native.Nat.{◌-◌, ◌≤◌}
+use Rattle.letters.proofs.Filling.{text_to}
 use Rattle.letters.proofs.write.fill_text.Given as goal
 
-abbrev pub invariant-loop-i : goal.invariant-loop-i
-invariant-loop-i l = (l.i ≤ l.count) × Wrote l.initial.text 0 (text_to l.records l.i) l.text l.at
-
-abbrev pub decreases-loop-i : goal.decreases-loop-i
-decreases-loop-i l = l.count - l.i
+abbrev pub invariant-loop-record : goal.invariant-loop-record
+invariant-loop-record l =
+    (length l.yielded ≤ whole_records l.records) × Wrote l.initial.text 0 (text_to l.records (length l.yielded)) l.text l.at
