@@ -19,9 +19,10 @@ use Rattle.std.specs.declared.slice.SplitInclusive.{SplitInclusive}
 use Rattle.std.specs.declared.slice.ChunksExact.{ChunksExact}
 use Rattle.std.proofs.lemmas.Fn.{always_returns_same}
 use Rattle.std.proofs.lemmas.Iterator.{YieldsList}
+use Rattle.std.proofs.lemmas.Iterator.Consumers.{YieldsList-turn}
 use Rattle.std.proofs.lemmas.Iterator.Splits.{YieldsList-from_shown_while}
 use Rattle.content.specs.Content.{listed, whole_records}
-use Rattle.letters.specs.Lines.{lines_of, first_length}
+use Rattle.letters.specs.Lines.{lines_of, line_count, line_at, first_length}
 use Rattle.letters.proofs.Cut.{first_line}
 
 -- Lines.
@@ -79,10 +80,18 @@ lines_come {s = s} g {f} text rest closure tests =
     (λ a r q k. let m = tests a.0.now r q (record { shown = a.0; shows = refl; called = k }) in (m.1, m.0)))))
 
 -- the line at a place that there is, whatever stands for one that there is not
-pub line_there : (ls : List (List ℕ)) (n : ℕ) (line : List ℕ) → (n < length ls) × (line ≡ get_or ls n line) → line ≡ get_or ls n []
-line_there [] n line (l, e) = absurd (omega arith)
-line_there (first ∷ ls) zero line (l, e) = e
-line_there (first ∷ ls) (suc n) line (l, e) = line_there ls n line (omega arith, e)
+line_there : (ls : List (List ℕ)) (n : ℕ) (line : List ℕ) → n < length ls → line ≡ get_or ls n line → line ≡ get_or ls n []
+line_there [] n line l e = absurd (omega arith)
+line_there (first ∷ ls) zero line l e = e
+line_there (first ∷ ls) (suc n) line l e = line_there ls n line (omega arith) e
+
+-- where the lines of a text come, and n have come, the next is line n
+pub line_comes : {S : Type 0} {steps : S → Option (Bor (List ℕ)) → S → Type 0} {s : S} (text : List ℕ) → YieldsList steps (λ x. x.now) s (lines_of text)
+    → (xs : List (Bor (List ℕ))) (t : S) → Yields steps s xs t → (r : Option (Bor (List ℕ))) (u : S) (x : Bor (List ℕ)) → r ≡ Some x → steps t r u
+    → (n : ℕ) → n ≡ length xs → (n < line_count text) × (x.now ≡ line_at text n)
+line_comes text come xs t y r u x e k n same =
+    let (l, here) = YieldsList-turn come xs t y r u x e k in
+    rw same (l, line_there (lines_of text) (length xs) x.now l here)
 
 -- Records.
 

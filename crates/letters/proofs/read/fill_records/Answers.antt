@@ -14,16 +14,16 @@ loop-line-init c = filling_none c.args.text.now _
 pub loop-line-preserved : goal.loop-line-preserved
 loop-line-preserved c =
     let text = c.args.text.now in
-    let turn =
-    YieldsList-turn (lines_come _ text (search rules) (search rules) (λ x b q k. search rules)) c.loop-line.yielded _ c.loop-line.yielded_by
-    _ _ c.in-Some.line c.in-Some.is c.next.ensures.steps in
-    wrote_as (ap (candidates_to text) (sym (length_push c.loop-line.yielded c.in-Some.line)))
-    (filling_more text c.loop-line.invariant c.in-Some.line.now turn (wrote_as c.candidate.ensures c.word-place.ensures))
+    let loop = c.loop-line in
+    let come = lines_come _ text (search rules) (search rules) (λ x b q k. search rules) in
+    let turn = YieldsList-turn come loop.yielded _ loop.yielded_by _ _ c.in-Some.line c.in-Some.is c.next.ensures.steps in
+    wrote_as (ap (candidates_to text) (sym (length_push loop.yielded c.in-Some.line)))
+    (filling_more text loop.invariant c.in-Some.line.now turn (wrote_as c.candidate.ensures c.word-place.ensures))
 
 pub returns : goal.returns
 returns c =
     let text = c.args.text.now in
-    let end =
-    YieldsList-end (lines_come _ text (search rules) (search rules) (λ x b q k. search rules)) c.loop-line.yielded _ c.loop-line.yielded_by
-    _ _ c.in-None.is c.next.ensures.steps in
-    filling_all text c.loop-line.invariant end.1
+    let loop = c.loop-line in
+    let come = lines_come _ text (search rules) (search rules) (λ x b q k. search rules) in
+    let (_, all) = YieldsList-end come loop.yielded _ loop.yielded_by _ _ c.in-None.is c.next.ensures.steps in
+    filling_all text loop.invariant all
