@@ -70,10 +70,8 @@ fn gather(records: &mut [u8], bundle: &[u8], count: usize) -> usize
     ensures { WroteFrom records.old 0 (gathered bundle.now count) records.new result }
 {
     let mut at: usize = 0;
-    let mut i: usize = 0;
-    while i < count {
+    for i in 0..count {
         at = put_record(records, at, bundle, i);
-        i += 1;
     }
     at
 }
