@@ -1,5 +1,4 @@
 -- `lines_from_bundle::gather` meets its contract.
-use Rattle.text.proofs.Written.{wrote_length}
 use Rattle.lines_from_bundle.proofs.Gathered.{gathering_none, gathering_more}
 use Rattle.lines_from_bundle.proofs.gather.Goals as goal
 
@@ -10,6 +9,3 @@ pub loop-i-preserved : goal.loop-i-preserved
 loop-i-preserved c =
     let args = c.args in
     gathering_more args.bundle.now args.records.now _ _ _ _ c.loop-i.i c.loop-i.invariant c.put_record-at.ensures
-
-pub shape_of-records : goal.shape_of-records
-shape_of-records c = wrote_length c.loop-i.invariant

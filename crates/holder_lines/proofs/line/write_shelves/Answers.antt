@@ -1,5 +1,4 @@
 -- `holder_lines::line::write_shelves` meets its contract.
-use Rattle.text.proofs.Written.{wrote_length}
 use Rattle.holder_lines.proofs.Passes.{shelves_none, shelves_more}
 use Rattle.holder_lines.proofs.line.write_shelves.Goals as goal
 
@@ -8,6 +7,3 @@ loop-i-init c = shelves_none _ _ _
 
 pub loop-i-preserved : goal.loop-i-preserved
 loop-i-preserved c = shelves_more _ _ c.loop-i.invariant c.shelf-next.ensures
-
-pub shape_of-text : goal.shape_of-text
-shape_of-text c = wrote_length c.loop-i.invariant

@@ -1,7 +1,6 @@
 -- `holder_lines::whole::write_lines` meets its contract.
 use native.Mathlib.Omega.{arith}
-use mathlib.Core.Path.{refl, ◌∙◌}
-use Rattle.text.proofs.Written.{wrote_length}
+use mathlib.Core.Path.{refl}
 use Rattle.holder_lines.proofs.Passes.{few_well, passed_none, passed_few, passed_more, passed_end}
 use Rattle.holder_lines.proofs.whole.write_lines.Goals as goal
 
@@ -18,9 +17,6 @@ loop-i-preserved c =
 
 pub overflow_sub-ill : goal.overflow_sub-ill
 overflow_sub-ill c = omega (arith, passed_few _ _ c.loop-i.invariant)
-
-pub shape_of-text : goal.shape_of-text
-shape_of-text c = wrote_length c.end_line.ensures ∙ wrote_length c.loop-i.invariant.wrote
 
 pub returns : goal.returns
 returns c =
