@@ -23,10 +23,8 @@ pub fn word(to: &mut [u8], at: usize, letters: &[u8]) -> usize
     ensures { Wrote to.old at letters.now to.new result }
 {
     let mut next = at;
-    let mut i = 0;
-    while i < letters.len() {
-        next = put(to, next, letters[i]);
-        i += 1;
+    for letter in letters {
+        next = put(to, next, *letter);
     }
     next
 }
