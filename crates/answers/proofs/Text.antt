@@ -1,52 +1,16 @@
--- Texts that grow byte by byte: one byte, nothing, and one after the other. What a text shows determines it. And messages.
-use Prim.Native.Nat.{ℕ, suc, ◌+◌, ◌-◌, ◌<◌, ◌≤◌}
-use native.Mathlib.Numerals.{add-one}
+-- What a text shows determines it, and bytes that are written into an empty text are what it then shows. And messages.
+use Prim.Native.Nat.{ℕ, ◌-◌, ◌<◌, ◌≤◌}
 use native.Mathlib.Omega.{arith}
 use borrow.Author.Tests.{lt-ltb, le-ltb}
-use mathlib.Core.Path.{◌≡◌, refl, ap, sym, ◌∙◌}
-use mathlib.Core.List.{List, [], ◌∷◌, ◌++◌, append-nil, append_assoc}
-use lib.ListN.{length, drop, set, replicate, length-set, length-append, take-append-drop}
-use lib.Seq.{take-suc-set, drop-set-lt, drop-drop, length-take-le}
+use mathlib.Core.Path.{◌≡◌, ap, sym, ◌∙◌}
+use mathlib.Core.List.{List, [], ◌++◌}
+use lib.ListN.{length, take, drop, replicate, length-replicate, take-append-drop}
+use lib.Seq.{length-take-le, take-append_seam, drop-append_seam}
+use Rattle.std.proofs.lemmas.List.{drop-replicate}
+use Rattle.text.specs.Written.{Wrote}
+use Rattle.text.proofs.Written.{wrote_text, wrote_length}
 use Rattle.answers.specs.declared.line.Text.{Text}
-use Rattle.answers.specs.Line.{capacity, message_of, Holds, Extends}
-
--- zeros without their first
-drop_zero : (k n : ℕ) → k ≡ suc n → drop {A = ℕ} 1 (replicate k 0) ≡ replicate n 0
-drop_zero k n e = rw e
-
--- a byte stored past the end of a text, and counted
-pub extends_byte : (text : Text) (byte : ℕ) → text.length < capacity
-    → Extends text (byte ∷ []) (record { bytes = set text.bytes text.length byte; length = text.length + 1 })
-extends_byte text byte room = record { counted = refl; holds = holds }
-  where
-    holds : (shown : List ℕ) → Holds text shown
-        → Holds (record { bytes = set text.bytes text.length byte; length = text.length + 1 }) (shown ++ byte ∷ [])
-    holds shown h =
-        let n = text.length in
-        let inside : n < length text.bytes = omega arith in
-        record {
-          size = simp length-set h.size;
-          fits = omega arith;
-          first = rw (add-one n, take-suc-set text.bytes n byte inside, h.first);
-          rest =
-              drop-set-lt (n + 1) text.bytes n byte (omega arith)
-              ∙ sym (drop-drop 1 n text.bytes)
-              ∙ ap (drop 1) h.rest
-              ∙ drop_zero (capacity - n) (capacity - (n + 1)) (omega arith);
-        }
-
--- no byte more
-pub extends_none : (text : Text) → Extends text [] text
-extends_none text = record { counted = omega arith; holds = λ shown h. rw append-nil h }
-
--- bytes after bytes
-pub extends_more : {text longer longest : Text} {more still : List ℕ} → Extends text more longer → Extends longer still longest
-    → Extends text (more ++ still) longest
-extends_more {more = more} {still} a b =
-    record {
-      counted = simp length-append (omega arith);
-      holds = λ shown h. rw (← append_assoc shown more still) (b.holds (shown ++ more) (a.holds shown h));
-    }
+use Rattle.answers.specs.Line.{capacity, message_of, Holds}
 
 -- the length of a text is that of what it shows
 pub length_shown : {text : Text} {shown : List ℕ} → Holds text shown → text.length ≡ length shown
@@ -63,6 +27,22 @@ one_text {a} {b} h k =
     let length : a.length ≡ b.length = length_shown h ∙ sym (length_shown k) in
     ap (λ (l : List ℕ). record { bytes = l; length = a.length }) bytes
     ∙ ap (λ (n : ℕ). record { bytes = b.bytes; length = n }) length
+
+-- zeros with bytes over their front: the bytes, and then zeros
+over_zeros : {zeros shown after : List ℕ} {next : ℕ} (k : ℕ) → zeros ≡ replicate k 0 → Wrote zeros 0 shown after next → length shown ≤ k
+    → (take next after ≡ shown) × (drop next after ≡ replicate (k - next) 0)
+over_zeros {zeros} {shown} {after} k e w room =
+    let (bytes, place) = wrote_text w (omega (arith, ap length e, length-replicate {A = ℕ})) in
+    let whole : after ≡ shown ++ replicate (k - length shown) 0 =
+    bytes ∙ rw e (ap (λ (l : List ℕ). shown ++ l) (drop-replicate (length shown) k 0)) in
+    rw (place, whole) (take-append_seam shown _, drop-append_seam shown _)
+
+-- what is written into an empty text is what it shows, where it has room
+pub holds_written : {start text : Text} {shown : List ℕ} → Holds start [] × (start.length ≡ 0)
+    → Wrote start.bytes start.length shown text.bytes text.length → length shown ≤ capacity → Holds text shown
+holds_written {start} (h, none) w room =
+    let (first, rest) = over_zeros capacity (bytes_shown h) (rw none at w) room in
+    record { size = wrote_length w ∙ h.size; fits = omega arith; first = first; rest = rest }
 
 -- a message that is too long, and one that fits
 pub message_long : (words : List ℕ) → capacity < length words → message_of words ≡ []

@@ -1,6 +1,6 @@
 -- What the programs print, in ASCII. The lines of `ask` and of `read_bundle`: a word, its numbers in decimal with one space before
 -- each, and a newline. And the text that holds a line or a message.
-use Rattle.std.specs.Prelude.{ℕ, ◌+◌, ◌-◌, ◌≤◌, ◌≡◌, cond, List, [], ◌++◌, length, take, drop, replicate, ltb}
+use Rattle.std.specs.Prelude.{ℕ, ◌-◌, ◌≤◌, ◌≡◌, cond, List, [], ◌++◌, length, take, drop, replicate, ltb}
 use Rattle.rt0.specs.Completion.{Verdict}
 use Rattle.rt0.specs.Completion as word
 use Rattle.answers.specs.declared.Answer.{Answer}
@@ -61,8 +61,3 @@ pub record Holds (text : Text) (shown : List ℕ) : Type 0 where
   pub fits : text.length ≤ capacity
   pub first : take text.length text.bytes ≡ shown
   pub rest : drop text.length text.bytes ≡ replicate (capacity - text.length) 0
-
--- a text shows what another one does, and then some bytes more
-pub record Extends (text : Text) (more : List ℕ) (longer : Text) : Type 0 where
-  pub counted : longer.length ≡ text.length + length more
-  pub holds : (shown : List ℕ) → Holds text shown → Holds longer (shown ++ more)
