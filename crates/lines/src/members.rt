@@ -32,10 +32,8 @@ pub fn write_members(sure: u32, possible: u32, text: &mut [u8]) -> usize
         sure: 0,
         maybe: 0,
     };
-    let mut i = 0;
-    while i < Table::ENTITIES {
+    for i in 0..Table::ENTITIES {
         tally = member_line(text, tally, (i + 1) as u16, has(sure, i), has(possible, i));
-        i += 1;
     }
     end_line(text, tally)
 }

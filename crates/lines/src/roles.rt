@@ -43,8 +43,7 @@ pub fn write_roles(sure: &[u32], possible: &[u32], d: usize, text: &mut [u8]) ->
         sure: 0,
         maybe: 0,
     };
-    let mut i = 0;
-    while i < Table::WORDS {
+    for i in 0..Table::WORDS {
         let entity = (i / Table::NAMES + 1) as u16;
         let name = (i % Table::NAMES + 1) as u16;
         tally = role_line(
@@ -55,7 +54,6 @@ pub fn write_roles(sure: &[u32], possible: &[u32], d: usize, text: &mut [u8]) ->
             has(word_at(sure, i), d),
             has(word_at(possible, i), d),
         );
-        i += 1;
     }
     end_line(text, tally)
 }

@@ -8,16 +8,12 @@ use words::table::Table;
 pub(crate) fn has(word: u32, d: usize) -> bool
     ensures { result ≡ is_one word d }
 {
-    if d < Table::ENTITIES {
-        (word >> d) % 2 == 1
-    } else {
-        false
-    }
+    d < Table::ENTITIES && (word >> d) % 2 == 1
 }
 
 // A word of a table, or 0 where it has none.
 pub(crate) fn word_at(words: &[u32], i: usize) -> u32
     ensures { result ≡ get_or words.now i 0 }
 {
-    if i < words.len() { words[i] } else { 0 }
+    words.get(i).copied().unwrap_or(0)
 }
