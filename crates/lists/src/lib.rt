@@ -55,43 +55,28 @@ fn list_members(
     Listed::Length(write_members(word(sure, entity, name), word(possible, entity, name), text))
 }
 
-// The members of a role, with two tables to fill.
-fn members_with(
-    bundle: &[u8],
-    entity: usize,
-    name: usize,
-    sure: &mut [u32],
-    possible: &mut [u32],
-    text: &mut [u8],
-) -> Listed
-    requires { (table_words ≤ length sure.old) × (table_words ≤ length possible.old) }
-    ensures { MembersPromise bundle.now (entity · name) text.old text.new result }
-{
-    match fill(bundle, sure, possible) {
-        Filled::Rounds { sizes, rounds: _ } => {
-            list_members(bundle, sizes, entity, name, sure, possible, text)
-        }
-        Filled::Refused { number, place } => Listed::Refused { number, place },
-    }
-}
-
 // All members of a role.
 pub fn members(bundle: &[u8], entity: u8, name: u8, text: &mut [u8]) -> Listed
     ensures { MembersPromise bundle.now (entity · name) text.old text.new result }
 {
     let mut sure = [0u32; Table::WORDS];
     let mut possible = [0u32; Table::WORDS];
-    members_with(
-        bundle,
-        entity as usize,
-        name as usize,
-        &mut sure,
-        &mut possible,
-        text,
-    )
+    match fill(bundle, &mut sure, &mut possible) {
+        Filled::Rounds { sizes, rounds: _ } => list_members(
+            bundle,
+            sizes,
+            entity as usize,
+            name as usize,
+            &sure,
+            &possible,
+            text,
+        ),
+        Filled::Refused { number, place } => Listed::Refused { number, place },
+    }
 }
 
 // The roles of a person by the tables of an accepted bundle, or 7, or 8.
+// Beside list_members and not one generic function with it: all that differs, test, room and text, would be a trait longer than the two.
 fn list_roles(
     bundle: &[u8],
     sizes: Sizes,
@@ -118,30 +103,16 @@ fn list_roles(
     Listed::Length(write_roles(sure, possible, person - 1, text))
 }
 
-// The roles of a person, with two tables to fill.
-fn roles_with(
-    bundle: &[u8],
-    person: usize,
-    sure: &mut [u32],
-    possible: &mut [u32],
-    text: &mut [u8],
-) -> Listed
-    requires { (table_words ≤ length sure.old) × (table_words ≤ length possible.old) }
-    ensures { RolesPromise bundle.now person text.old text.new result }
-{
-    match fill(bundle, sure, possible) {
-        Filled::Rounds { sizes, rounds: _ } => {
-            list_roles(bundle, sizes, person, sure, possible, text)
-        }
-        Filled::Refused { number, place } => Listed::Refused { number, place },
-    }
-}
-
 // All roles of a person.
 pub fn roles(bundle: &[u8], person: u8, text: &mut [u8]) -> Listed
     ensures { RolesPromise bundle.now person text.old text.new result }
 {
     let mut sure = [0u32; Table::WORDS];
     let mut possible = [0u32; Table::WORDS];
-    roles_with(bundle, person as usize, &mut sure, &mut possible, text)
+    match fill(bundle, &mut sure, &mut possible) {
+        Filled::Rounds { sizes, rounds: _ } => {
+            list_roles(bundle, sizes, person as usize, &sure, &possible, text)
+        }
+        Filled::Refused { number, place } => Listed::Refused { number, place },
+    }
 }

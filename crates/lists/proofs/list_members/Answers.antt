@@ -1,15 +1,10 @@
 -- `lists::list_members` meets its contract.
 use native.Mathlib.Omega.{arith}
-use Rattle.lists.proofs.Promised.{members_wrong, members_short, members_given}
+use Rattle.lists.proofs.Promised.{members_wrong, members_given}
 use Rattle.lists.proofs.list_members.Goals as goal
 
 pub returns-then-outside : goal.returns-then-outside
-returns-then-outside c =
-    members_wrong _ _ c.requires.0 _ _ _ c.outside.ensures c.outside-2.ensures c.if-outside.true
-
-pub returns-then-text-lt-MEMBERS : goal.returns-then-text-lt-MEMBERS
-returns-then-text-lt-MEMBERS c =
-    members_short _ _ c.requires.0 _ _ _ c.outside.ensures c.outside-2.ensures c.if-outside.false (omega (arith, c.if-text-lt-MEMBERS.true))
+returns-then-outside c = members_wrong _ _ c.requires.0 _ _ _ c.outside.ensures c.outside-2.ensures c.if-outside.true
 
 pub returns : goal.returns
 returns c =

@@ -1,19 +1,10 @@
 -- `lists::list_roles` meets its contract.
 use native.Mathlib.Omega.{arith}
-use Rattle.lists.proofs.Promised.{roles_wrong, roles_short, person_from_one, roles_given}
+use Rattle.lists.proofs.Promised.{roles_wrong, roles_given}
 use Rattle.lists.proofs.list_roles.Goals as goal
 
 pub returns-then-outside : goal.returns-then-outside
-returns-then-outside c =
-    roles_wrong _ _ c.requires.0 _ _ c.outside.ensures c.if-outside.true
-
-pub returns-then-text-lt-ROLES : goal.returns-then-text-lt-ROLES
-returns-then-text-lt-ROLES c =
-    roles_short _ _ c.requires.0 _ _ c.outside.ensures c.if-outside.false (omega (arith, c.if-text-lt-ROLES.true))
-
-pub overflow_sub-person : goal.overflow_sub-person
-overflow_sub-person c =
-    person_from_one _ _ c.requires.0 _ c.outside.ensures c.if-outside.false
+returns-then-outside c = roles_wrong _ _ c.requires.0 _ _ c.outside.ensures c.if-outside.true
 
 pub returns : goal.returns
 returns c =
