@@ -73,13 +73,6 @@ module _ {K : Type 0} where
             maybe = m.maybe_count ∙ rw (p.maybe, count_both MAYBE ls (line k (mark_if sure) ∷ []), one_count MAYBE k (mark_if sure));
           })
 
-    -- a key that is neither has no line
-    pub passed_over : (k : K) (sure possible : Bool) {before now : List ℕ} (ls : List (Line K)) {t : Tally} → (sure || possible) ≡ false
-        → Passed key_text ls before now t → Passed key_text (ls ++ line_for k sure possible) before now t
-    passed_over k true possible ls h p = absurd (clash_flag refl h)
-    passed_over k false true ls h p = absurd (clash_flag refl h)
-    passed_over k false false ls h p = rw append-nil p
-
     -- the memory keeps its length
     pub passed_length : {before now : List ℕ} {ls : List (Line K)} {t : Tally} → Passed key_text ls before now t → length now ≡ length before
     passed_length p = wrote_length p.wrote

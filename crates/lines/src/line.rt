@@ -7,7 +7,7 @@ ghost use Rattle.lines.specs.Passing.{Marked};
 use text::{number, put, word};
 
 // Where the next line goes, and how many lines of each kind are written.
-#[derive(Clone, Copy)]
+#[derive(Clone, Copy, Default)]
 pub struct Tally {
     pub next: usize,
     pub sure: u16,
@@ -23,13 +23,13 @@ pub(crate) fn mark(text: &mut [u8], at: usize, tally: Tally, sure: bool) -> Tall
         return Tally {
             next: word(text, at, b" SURE\n"),
             sure: tally.sure + 1,
-            maybe: tally.maybe,
+            ..tally
         };
     }
     Tally {
         next: word(text, at, b" MAYBE\n"),
-        sure: tally.sure,
         maybe: tally.maybe + 1,
+        ..tally
     }
 }
 

@@ -27,11 +27,7 @@ fn member_line(text: &mut [u8], tally: Tally, person: u16, sure: bool, possible:
 pub fn write_members(sure: u32, possible: u32, text: &mut [u8]) -> usize
     ensures { Wrote text.old 0 (list_text person_text (members_up_to sure possible most_entities)) text.new result }
 {
-    let mut tally = Tally {
-        next: 0,
-        sure: 0,
-        maybe: 0,
-    };
+    let mut tally = Tally::default();
     for i in 0..Table::ENTITIES {
         tally = member_line(text, tally, (i + 1) as u16, has(sure, i), has(possible, i));
     }

@@ -13,6 +13,7 @@ use text::{number, put};
 use words::table::Table;
 
 // The line of a role, where someone is possible in it.
+// Beside member_line and not one generic function with it: a trait for the two keys, with an impl for each, would be longer than the two.
 fn role_line(
     text: &mut [u8],
     tally: Tally,
@@ -38,11 +39,7 @@ pub fn write_roles(sure: &[u32], possible: &[u32], d: usize, text: &mut [u8]) ->
     ensures { Wrote text.old 0
         (list_text role_text (roles_up_to sure.now possible.now d table_words)) text.new result }
 {
-    let mut tally = Tally {
-        next: 0,
-        sure: 0,
-        maybe: 0,
-    };
+    let mut tally = Tally::default();
     for i in 0..Table::WORDS {
         let entity = (i / Table::NAMES + 1) as u16;
         let name = (i % Table::NAMES + 1) as u16;

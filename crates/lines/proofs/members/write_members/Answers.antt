@@ -1,11 +1,10 @@
 -- `lines::members::write_members` meets its contract. The invariant: the lines of the persons passed are written.
-use mathlib.Core.Path.{refl}
 use borrow.Author.Rules.{rules}
 use Rattle.lines.proofs.Passes.{members_start, members_more, members_few, members_written}
 use Rattle.lines.proofs.members.write_members.Goals as goal
 
 pub loop-i-init : goal.loop-i-init
-loop-i-init c = members_start c.args.sure c.args.possible refl refl refl
+loop-i-init c = members_start c.args.sure c.args.possible (search rules) (search rules) (search rules)
 
 pub member_line-tally-requires : goal.member_line-tally-requires
 member_line-tally-requires c = members_few _ _ c.loop-i.i (search rules) c.loop-i.invariant

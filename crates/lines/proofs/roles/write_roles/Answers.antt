@@ -1,11 +1,10 @@
 -- `lines::roles::write_roles` meets its contract. The invariant: the lines of the words passed are written.
-use mathlib.Core.Path.{refl}
 use borrow.Author.Rules.{rules}
 use Rattle.lines.proofs.Passes.{roles_start, roles_more, roles_few, roles_written}
 use Rattle.lines.proofs.roles.write_roles.Goals as goal
 
 pub loop-i-init : goal.loop-i-init
-loop-i-init c = let args = c.args in roles_start args.sure.now args.possible.now args.d refl refl refl
+loop-i-init c = let args = c.args in roles_start args.sure.now args.possible.now args.d (search rules) (search rules) (search rules)
 
 pub role_line-tally-requires : goal.role_line-tally-requires
 role_line-tally-requires c =
