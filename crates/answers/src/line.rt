@@ -18,8 +18,7 @@ impl Text {
     // How many bytes a text has room for: every line, and the messages of the programs.
     pub const CAPACITY: usize = 64;
 
-    // By these three and not by `write!`, whose contract says what is written where it returns an Ok, and never that it does: each line is
-    // promised of all numbers.
+    // Not by `write!`: its contract says what is written where it returns an Ok and never that it does, and a line is promised of all numbers.
 
     // The text with one byte more, where there is room.
     fn put(mut self, byte: u8) -> Text
