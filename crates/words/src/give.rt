@@ -5,7 +5,7 @@ ghost use Rattle.words.specs.Give.{single_of, link_of};
 ghost use Rattle.words.specs.Step.{body_gives, head_in, step_gives};
 
 use crate::step::{Gain, Step};
-use crate::table::{Table, smaller, word};
+use crate::table::{Table, word};
 use base::outside;
 
 // The word of one entity, or 0.
@@ -24,12 +24,10 @@ fn link_word(words: &[u32], members: u32, name: usize, entities: usize) -> u32
     ensures { result ≡ link_of words.now members name entities }
 {
     let mut gained: u32 = 0;
-    let mut x: usize = 0;
-    while x < entities {
+    for x in 0..entities {
         if (members >> x) % 2 == 1 {
-            gained = gained | word(words, x + 1, name);
+            gained |= word(words, x + 1, name);
         }
-        x += 1;
     }
     gained
 }
@@ -38,7 +36,7 @@ fn link_word(words: &[u32], members: u32, name: usize, entities: usize) -> u32
 fn word_at(words: &[u32], at: usize) -> u32
     ensures { result ≡ get_or words.now at 0 }
 {
-    if at < words.len() { words[at] } else { 0 }
+    words.get(at).copied().unwrap_or(0)
 }
 
 // What a body gives, by the form.
@@ -54,7 +52,7 @@ fn body_gives(form: usize, body: usize, words: &[u32], entities: usize) -> u32
             words,
             word_at(words, one),
             two,
-            smaller(entities, Table::ENTITIES),
+            entities.min(Table::ENTITIES),
         ),
         4 => word_at(words, one) & word_at(words, two),
         5 => {

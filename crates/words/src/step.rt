@@ -94,9 +94,7 @@ fn step_of(record: Record) -> usize
 pub fn write_steps(bundle: &[u8], steps: &mut [usize])
     ensures { Steps bundle.now steps.old steps.new }
 {
-    let mut n: usize = 0;
-    while n < steps.len() {
-        steps[n] = step_of(record_at(bundle, n + 1));
-        n += 1;
+    for (n, step) in steps.iter_mut().enumerate() {
+        *step = step_of(record_at(bundle, n + 1));
     }
 }

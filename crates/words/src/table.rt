@@ -1,5 +1,5 @@
 // Tables of words: one word for each role, one bit for each member. What lies outside a table has an answer too.
-ghost use Rattle.std.specs.Prelude.{◌≡◌, min};
+ghost use Rattle.std.specs.Prelude.{◌≡◌};
 ghost use Rattle.words.specs.Give.{outside_tables, place_of, word_of, copied_over};
 
 use base::outside;
@@ -44,24 +44,13 @@ pub fn word(words: &[u32], entity: usize, name: usize) -> u32
         return 0;
     }
     let at = Table::NAMES * (entity - 1) + (name - 1);
-    if at < words.len() { words[at] } else { 0 }
-}
-
-// The smaller of two numbers.
-pub(crate) fn smaller(one: usize, two: usize) -> usize
-    ensures { result ≡ min one two }
-{
-    if one < two { one } else { two }
+    words.get(at).copied().unwrap_or(0)
 }
 
 // The words of one table over those of another, as far as both go.
 pub fn copy(from: &[u32], to: &mut [u32])
     ensures { to.new ≡ copied_over from.now to.old }
 {
-    let end = smaller(from.len(), to.len());
-    let mut i: usize = 0;
-    while i < end {
-        to[i] = from[i];
-        i += 1;
-    }
+    let end = from.len().min(to.len());
+    to[..end].copy_from_slice(&from[..end]);
 }

@@ -14,7 +14,7 @@ returns-in-2 c = rw c.in-2.is c.word_at.ensures
 
 pub returns-in-3 : goal.returns-in-3
 unfolding body_gives
-returns-in-3 c = rw c.in-3.is (c.link_word.ensures ∙ rw (c.word_at-in-3.ensures, c.smaller.ensures))
+returns-in-3 c = rw c.in-3.is (c.link_word.ensures ∙ rw (c.word_at-in-3.ensures, c.min.ensures))
 
 pub returns-in-4 : goal.returns-in-4
 unfolding body_gives

@@ -3,7 +3,7 @@ use native.Mathlib.Omega.{arith}
 use mathlib.Core.Path.{sym, ◌∙◌}
 use Rattle.words.specs.Give.{word_of}
 use Rattle.words.proofs.Given.{inside_tables}
-use Rattle.words.proofs.Filling.{past_end}
+use borrow.Author.Rules.{rules}
 use Rattle.words.proofs.table.word.Goals as goal
 
 pub returns-then-outside_tables : goal.returns-then-outside_tables
@@ -22,12 +22,6 @@ overflow_sub-at-2 c = omega (arith, inside_tables _ _ c.outside_tables.ensures c
 pub overflow_add-at : goal.overflow_add-at
 overflow_add-at c = omega (arith, inside_tables _ _ c.outside_tables.ensures c.if-outside_tables.false)
 
-pub returns-then-at-words : goal.returns-then-at-words
+pub returns : goal.returns
 unfolding word_of
-returns-then-at-words c = rw (sym c.outside_tables.ensures ∙ c.if-outside_tables.false)
-
-pub returns-else-at-words : goal.returns-else-at-words
-unfolding word_of
-returns-else-at-words c =
-    let words = c.args.words.now in
-    rw (sym c.outside_tables.ensures ∙ c.if-outside_tables.false) (sym (past_end words _ c.if-at-words.false))
+returns c = rw (sym c.outside_tables.ensures ∙ c.if-outside_tables.false) (search rules)
