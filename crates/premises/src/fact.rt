@@ -23,5 +23,5 @@ pub(crate) fn line_of(index: &[u16], role: Role, member: usize) -> u16
     ensures { result ≡ line_of index.now (role_of role) member }
 {
     let at = fact_number(role.entity, role.name, member);
-    if at < index.len() { index[at] } else { 0 }
+    index.get(at).copied().unwrap_or(0)
 }

@@ -44,14 +44,12 @@ fn between(words: &[u32], members: u32, name: usize, member: usize) -> usize
     requires { IsEntity most_entities member }
     ensures { result ≡ lowest_between words.now members name member }
 {
-    let mut x: usize = 0;
-    while x < Table::ENTITIES {
+    for x in 0..Table::ENTITIES {
         if is_between(words, members, name, member, x) {
             return x + 1;
         }
-        x += 1;
     }
-    x + 1
+    Table::ENTITIES + 1
 }
 
 // The premises by which a link gives a member: X is in its first role, and the member in the role of X with the second name.

@@ -1,20 +1,17 @@
 -- `premises::premise::between` meets its contract. The invariant: the test fails below x.
 use Prim.Native.Nat.{◌+◌}
-use mathlib.Core.Path.{sym, ap, ◌∙◌}
-use Rattle.base.proofs.Lowest.{missed_none, missed_more, lowest_hit, lowest_none}
+use native.Mathlib.Omega.{arith}
+use mathlib.Core.Path.{◌≡◌, sym, ap, ◌∙◌}
+use Rattle.base.proofs.Lowest.{lowest_hit, lowest_none}
 use borrow.Author.Rules.{rules}
+use Rattle.words.specs.Sizes.{most_entities}
 use Rattle.premises.proofs.premise.between.Goals as goal
-
-pub loop-x-init : goal.loop-x-init
-loop-x-init c = (search rules, missed_none _)
 
 pub returns-then-is_between : goal.returns-then-is_between
 returns-then-is_between c =
-    ap (λ x. x + 1) (lowest_hit _ _ _ (search rules) c.loop-x.invariant.1 (sym c.is_between.ensures ∙ c.if-is_between.true))
-
-pub loop-x-preserved : goal.loop-x-preserved
-loop-x-preserved c =
-    (search rules, missed_more _ _ c.loop-x.invariant.1 (sym c.is_between.ensures ∙ c.if-is_between.false))
+    ap (λ x. x + 1) (lowest_hit _ _ _ (search rules) c.loop-x.invariant (sym c.is_between.ensures ∙ c.if-is_between.true))
 
 pub returns : goal.returns
-returns c = ap (λ x. x + 1) (lowest_none _ _ _ (search rules) (search rules) c.loop-x.invariant.1)
+returns c =
+    let end : c.loop-x.x ≡ most_entities = omega arith in
+    ap (λ x. x + 1) (sym end ∙ lowest_none _ _ _ (search rules) (search rules) c.loop-x.invariant)
