@@ -19,9 +19,7 @@ pub(crate) fn round(steps: &[usize], count: usize, entities: usize, from: &[u32]
     requires { (count ≤ length steps.now) × ((m : ℕ) → m < count → head_in (get_or steps.now m 0) < length to.old) }
     ensures { to.new ≡ use_steps entities steps.now from.now to.old count }
 {
-    let mut n: usize = 0;
-    while n < count {
-        use_step(steps[n], entities, from, to);
-        n += 1;
+    for step in &steps[..count] {
+        use_step(*step, entities, from, to);
     }
 }

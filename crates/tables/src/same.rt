@@ -2,19 +2,10 @@
 ghost use Rattle.std.specs.Prelude.{◌≡◌, true, false, length};
 ghost use Rattle.words.specs.Sizes.{table_words};
 
-use words::table::Table;
-
 // Whether two tables have the same words.
 pub(crate) fn same(one: &[u32], two: &[u32]) -> bool
     requires { (length one.now ≡ table_words) × (length two.now ≡ table_words) }
     ensures { (result ≡ true → one.now ≡ two.now) × (result ≡ false → one.now ≡ two.now → ⊥) }
 {
-    let mut i: usize = 0;
-    while i < Table::WORDS {
-        if one[i] != two[i] {
-            return false;
-        }
-        i += 1;
-    }
-    true
+    one == two
 }

@@ -22,6 +22,7 @@ fn settle(bundle: &[u8], sizes: Sizes, words: &mut [u32]) -> usize
     let mut steps = [0usize; Step::MOST];
     write_steps(bundle, &mut steps);
     let mut rounds: usize = 0;
+    // Only the round itself tells whether it is the last, so that a `for` would need a bound on them and an answer past it.
     loop {
         let mut from = [0u32; Table::WORDS];
         copy(words, &mut from);

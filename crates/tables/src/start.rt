@@ -35,12 +35,10 @@ fn absent(bundle: &[u8], entities: usize) -> u32
     ensures { result ≡ absent_word bundle.now entities }
 {
     let mut word: u32 = 0;
-    let mut i: usize = 0;
-    while i < entities {
+    for i in 0..entities {
         if is_absent(bundle, i + 1) {
-            word = word | (1u32 << i);
+            word |= 1u32 << i;
         }
-        i += 1;
     }
     word
 }
@@ -87,9 +85,7 @@ pub(crate) fn start(sizes: Sizes, roles: OpenRoles, words: &mut [u32])
     requires { (sizes.entities ≤ most_entities) × (length words.old ≡ table_words) }
     ensures { words.new ≡ start_words sizes roles }
 {
-    let mut i: usize = 0;
-    while i < Table::WORDS {
-        words[i] = open_word(sizes, roles, i);
-        i += 1;
+    for (i, word) in words.iter_mut().enumerate() {
+        *word = open_word(sizes, roles, i);
     }
 }

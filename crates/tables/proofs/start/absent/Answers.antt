@@ -1,7 +1,6 @@
 -- `tables::start::absent` meets its contract. The invariant: the word is that of the absent ones of the first i entities.
 use native.Mathlib.Omega.{arith}
-use borrow.Author.Rules.{rules}
-use mathlib.Core.Path.{◌≡◌, ◌∙◌}
+use mathlib.Core.Path.{◌∙◌}
 use Rattle.rt0.proofs.BitsBelow.{bits_none}
 use Rattle.tables.specs.Open.{absent_word}
 use Rattle.tables.proofs.Opened.{absent_more, absent_other}
@@ -10,20 +9,13 @@ use Rattle.tables.proofs.start.absent.Goals.{then-is_absent, else-is_absent}
 
 pub loop-i-init : goal.loop-i-init
 unfolding absent_word
-loop-i-init c = (search rules, bits_none _)
+loop-i-init c = bits_none _
 
 pub loop-i-preserved : goal.loop-i-preserved
 loop-i-preserved c =
-    let e = c.loop-i.invariant.1 in
-    let q = c.is_absent.ensures in (
-      search rules,
-      elim c.if-is_absent.branch [
-        | then-is_absent w ↦ w.word-is ∙ absent_more _ _ _ e _ q (omega arith) w.if-is_absent.true
-        | else-is_absent w ↦ w.word-is ∙ absent_other _ _ _ e _ q w.if-is_absent.false
-      ],
-    )
-
-pub returns : goal.returns
-returns c =
-    let e : c.loop-i.i ≡ c.args.entities = omega arith in
-    rw (← e, c.loop-i.invariant.1)
+    let e = c.loop-i.invariant in
+    let q = c.is_absent.ensures in
+    elim c.if-is_absent.branch [
+      | then-is_absent w ↦ w.word-is ∙ absent_more _ _ _ e _ q (omega arith) w.if-is_absent.true
+      | else-is_absent w ↦ w.word-is ∙ absent_other _ _ _ e _ q w.if-is_absent.false
+    ]

@@ -1,6 +1,5 @@
 -- `tables::start::start` meets its contract. The invariant: the first i words are those of the table to be made.
 use borrow.Author.Rules.{rules}
-use lib.ListN.{length-set}
 use Rattle.rt0.specs.Word.{open_words}
 use Rattle.words.specs.Sizes.{width, table_words}
 use Rattle.tables.specs.Open.{open_in}
@@ -13,14 +12,11 @@ unfolding open_words
 loop-i-init c = search rules
 
 pub loop-i-preserved : goal.loop-i-preserved
-loop-i-preserved c = (
-  search rules,
-  simp length-set (search rules),
-  open_more _ _ _ _ _ _ (search rules) c.open_word.ensures c.loop-i.invariant.2,
-)
+loop-i-preserved c =
+    open_more _ _ _ _ _ _ (search rules) c.open_word.ensures c.loop-i.invariant
 
 pub returns : goal.returns
 returns c =
     let a = c.args in
-    filled_whole (open_words a.sizes.entities a.sizes.names width (open_in a.roles)) _ table_words _ (search rules)
-    c.loop-i.invariant.0 c.loop-i-test.false c.loop-i.invariant.2
+    filled_whole (open_words a.sizes.entities a.sizes.names width (open_in a.roles)) _ table_words _
+    (search rules) (search rules) (search rules) c.loop-i.invariant
