@@ -85,13 +85,11 @@ fn state_members(
         index.new slip.new result (AllStated index.new given.first given.word most_entities) }
 {
     let mut count = lines;
-    let mut i: usize = 0;
-    while i < Table::ENTITIES {
+    for i in 0..Table::ENTITIES {
         count = state(bundle, words, given, i, index, slip, count);
         if index[goal] != 0 {
             return count;
         }
-        i += 1;
     }
     count
 }
@@ -154,11 +152,9 @@ fn one_round(
     let mut words = [0u32; Table::WORDS];
     copy(said, &mut words);
     let mut count = lines;
-    let mut number: usize = 0;
-    while number < sizes.records {
-        number += 1;
+    for n in 0..sizes.records {
         let turn = Turn {
-            number,
+            number: n + 1,
             goal,
             lines: count,
         };
@@ -196,13 +192,11 @@ fn write_rounds(
     ensures { Finished (book_in bundle.now) slip.old goal index.new slip.new result }
 {
     let mut count: usize = 0;
-    let mut round: usize = 0;
-    while round < rounds {
+    for _round in 0..rounds {
         count = one_round(bundle, steps, sizes, goal, said, index, slip, count);
         if index[goal] != 0 {
             return count;
         }
-        round += 1;
     }
     count
 }

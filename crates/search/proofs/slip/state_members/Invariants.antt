@@ -1,6 +1,4 @@
 -- `search::slip::state_members` meets its contract. The invariant: the members before i have lines.
-use Prim.Native.Nat.{◌-◌, ◌≤◌}
-use Rattle.words.specs.Sizes.{most_entities}
 use Rattle.ledger.specs.Ledger.{Extended}
 use Rattle.bundle.specs.Held.{book_in}
 use Rattle.ledger.specs.Writing.{Unsaid, AllStated}
@@ -8,8 +6,5 @@ use Rattle.search.proofs.slip.state_members.Given as goal
 
 abbrev pub invariant-loop-i : goal.invariant-loop-i
 invariant-loop-i l =
-    (l.i ≤ most_entities) × Extended (book_in l.bundle) l.initial.index l.initial.slip l.lines l.index l.slip l.count × Unsaid l.index l.goal
+    Extended (book_in l.bundle) l.initial.index l.initial.slip l.lines l.index l.slip l.count × Unsaid l.index l.goal
     × AllStated l.index l.given.first l.given.word l.i
-
-abbrev pub decreases-loop-i : goal.decreases-loop-i
-decreases-loop-i l = most_entities - l.i
