@@ -30,18 +30,16 @@ fn first_broken(bundle: &[u8], sizes: Sizes, slip: &[u8], lines: usize) -> usize
     requires { Accepts bundle.now sizes × (lines ≤ slip_lines) }
     ensures { result ≡ lowest (line_wrong (book_in bundle.now) slip.now) lines }
 {
-    let mut i: usize = 0;
-    'lines: while i < lines {
-        let mut j: usize = 0;
-        while j < Line::PREMISES {
+    let mut first = lines;
+    'lines: for i in 0..lines {
+        for j in 0..Line::PREMISES {
             if broken(bundle, sizes, slip, i, j) {
+                first = i;
                 break 'lines;
             }
-            j += 1;
         }
-        i += 1;
     }
-    i
+    first
 }
 
 // The answer for a bundle that is read and a question in range: whether the slip shows what is asked.
