@@ -2,10 +2,10 @@
 use Prim.Native.Nat.{ℕ, zero, suc, ◌+◌, ◌<◌, ◌≤◌, min}
 use native.Mathlib.Numerals.{add-one}
 use native.Mathlib.Omega.{arith}
-use mathlib.Core.Path.{◌≡◌, refl, sym, ap, ◌∙◌}
+use mathlib.Core.Path.{◌≡◌, refl, ◌∙◌}
 use mathlib.Core.List.{List, [], ◌∷◌, ◌++◌, append-nil}
 use lib.ListN.{length, take, get_or, set}
-use lib.Seq.{take-suc-set, take_all, take-length, drop-length}
+use lib.Seq.{take-suc-set, take-length, drop-length}
 use Rattle.words.specs.Give.{copied_over}
 
 module _ (made : ℕ → List ℕ) (to : List ℕ) where
@@ -13,12 +13,6 @@ module _ (made : ℕ → List ℕ) (to : List ℕ) where
   pub filled_more : (i v : ℕ) → i < length to → made (suc i) ≡ made i ++ (v ∷ []) → take i to ≡ made i
       → take (i + 1) (set to i v) ≡ made (i + 1)
   filled_more i v l grows h = rw (add-one, take-suc-set to i v l, grows, h)
-
-  -- the whole list
-  pub filled_whole : (n i : ℕ) → length to ≡ n → i ≤ n → n ≤ i → take i to ≡ made i → to ≡ made n
-  filled_whole n i size m l h =
-      let end : i ≡ n = omega arith in
-      sym (take_all i to (omega arith)) ∙ h ∙ ap made end
 
 -- a copy between lists of one length is the other list
 module _ (from to : List ℕ) where
