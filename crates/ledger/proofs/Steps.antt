@@ -48,11 +48,6 @@ writing_words w x said size backed = record {
   backed = backed;
 }
 
--- with the same words
-pub writing_on : {bytes : List ℕ} {E : ℕ} {ws index slip : List ℕ} {n : ℕ} {index' slip' : List ℕ} {n' : ℕ}
-    → Writing bytes E ws index slip n → Extended (book_in bytes) index slip n index' slip' n' → Writing bytes E ws index' slip' n'
-writing_on {ws = ws} w x = writing_words w x ws w.words (λ f l h. x.keeps f (w.backed f l h))
-
 -- ---- up to a fact
 
 -- with the fact's line, which is the last
@@ -93,9 +88,6 @@ pub bit_one : (w d : ℕ) → (bit w d ≡ 0 → ⊥) → bit w d ≡ 1
 bit_one w d h = ⊎_elim (λ z. absurd (h z)) (λ o. o) (bit_cases w d)
 
 -- ---- the members that a record gives, one after the other
-
-pub stated_none : (index : List ℕ) (first given : ℕ) → AllStated index first given 0
-stated_none index first given j l = absurd (omega arith)
 
 pub stated_more : (first given i : ℕ) {bytes index slip : List ℕ} {n : ℕ} {index' slip' : List ℕ} {n' : ℕ}
     → AtMostOneMore bytes index slip n (first + i) (bit given i) index' slip' n' → AllStated index first given i

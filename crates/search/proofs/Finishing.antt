@@ -67,14 +67,6 @@ pub times_more : (E : ℕ) (cs : List Credential) (start said said' : List ℕ) 
 unfolding times_words
 times_more E cs start said said' n e r = rw (add-one, r, e)
 
--- a fact that the words hold after so many rounds has a line by then
-pub goal_there : {bytes : List ℕ} {E : ℕ} {said index slip : List ℕ} {n : ℕ} → Writing bytes E said index slip n
-    → (start : List ℕ) (goal round rounds : ℕ) → said ≡ times_words E width (held bytes) round start → round ≤ rounds → rounds ≤ round
-    → HasFact (times_words E width (held bytes) rounds start) goal → Unsaid index goal → ⊥
-goal_there w start goal round rounds e l m h unsaid =
-    let same : rounds ≡ round = omega arith in
-    w.backed goal unsaid.inside (rw (e, ← same) h) unsaid.none
-
 -- ---- the end
 
 -- a fact that has none or the last line, and has one, has the last

@@ -1,8 +1,7 @@
 -- `search::slip::one_round` meets its contract. The invariant: the words said are those after the first records.
 use native.Mathlib.Omega.{arith}
 use borrow.Author.Rules.{rules}
-use mathlib.Core.Path.{◌∙◌}
-use Rattle.ledger.proofs.Steps.{extended_same, extended_twice, writing_on, progress_stop, progress_end}
+use Rattle.ledger.proofs.Steps.{extended_same, extended_twice, progress_stop, progress_end}
 use Rattle.words.proofs.Filling.{copied_same}
 use Rattle.tables.proofs.Rounds.{round_none, round_more, round_all}
 use Rattle.bundle.specs.Held.{held}
@@ -17,12 +16,6 @@ loop-n-init c =
       pre.0.backed,
       copied_same _ _ c.copy.ensures (search rules),
     )
-
-pub use_record-count-requires : goal.use_record-count-requires
-use_record-count-requires c =
-    let pre = c.requires in
-    let inv = c.loop-n.invariant in
-    (rw inv.4 (writing_on pre.0 inv.0), omega arith, pre.2, c.loop-n.auto.said ∙ pre.0.words, inv.3, inv.1)
 
 pub returns-then-index-goal-ne0 : goal.returns-then-index-goal-ne0
 returns-then-index-goal-ne0 c =

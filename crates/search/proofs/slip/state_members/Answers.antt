@@ -1,19 +1,6 @@
 -- `search::slip::state_members` meets its contract. The invariant: the members before i have lines.
-use native.Mathlib.Omega.{arith}
-use borrow.Author.Rules.{rules}
-use Rattle.ledger.proofs.Steps.{extended_same, extended_twice, writing_on, progress_stop, progress_end, stated_none, stated_more}
+use Rattle.ledger.proofs.Steps.{extended_twice, progress_stop, stated_more}
 use Rattle.search.proofs.slip.state_members.Goals as goal
-
-pub loop-i-init : goal.loop-i-init
-loop-i-init c =
-    let args = c.args in
-    let pre = c.requires in
-    (extended_same pre.0.ledger, pre.2, stated_none args.index.now args.given.first args.given.word)
-
-pub state-count-requires : goal.state-count-requires
-state-count-requires c =
-    let pre = c.requires in
-    (writing_on pre.0 c.loop-i.invariant.0, pre.1, search rules)
 
 pub returns-then-index-goal-ne0 : goal.returns-then-index-goal-ne0
 returns-then-index-goal-ne0 c =
@@ -30,8 +17,3 @@ loop-i-preserved c =
       record { inside = inv.1.inside; none = c.if-index-goal-ne0.false },
       stated_more given.first given.word _ step inv.2,
     )
-
-pub returns : goal.returns
-returns c =
-    let inv = c.loop-i.invariant in
-    progress_end inv.0 inv.1 (λ j l. inv.2 j (omega arith))

@@ -1,9 +1,8 @@
 -- `search::slip::write_rounds` meets its contract. The invariant: the words said are those after so many rounds.
-use borrow.Author.Rules.{rules}
 use mathlib.Core.Path.{◌∙◌}
 use Rattle.bundle.specs.Held.{held}
 use Rattle.ledger.proofs.Steps.{extended_same, extended_twice, writing_words}
-use Rattle.search.proofs.Finishing.{times_none, times_more, goal_there, last_line}
+use Rattle.search.proofs.Finishing.{times_none, times_more, last_line}
 use Rattle.search.proofs.slip.write_rounds.Goals as goal
 
 pub loop-round-init : goal.loop-round-init
@@ -11,12 +10,6 @@ loop-round-init c =
     let args = c.args in
     let pre = c.requires in
     (pre.0, extended_same pre.0.ledger, pre.3, times_none args.sizes.entities (held args.bundle.now) _)
-
-pub one_round-count-requires : goal.one_round-count-requires
-one_round-count-requires c =
-    let inv = c.loop-round.invariant in
-    let pre = c.requires in
-    (inv.0, pre.1, pre.2, inv.2)
 
 pub returns-then-index-goal-ne0 : goal.returns-then-index-goal-ne0
 returns-then-index-goal-ne0 c =
@@ -34,8 +27,3 @@ loop-round-preserved c =
       record { inside = inv.2.inside; none = c.if-index-goal-ne0.false },
       times_more args.sizes.entities (held args.bundle.now) _ _ _ _ inv.3 words.0,
     )
-
-pub returns : goal.returns
-returns c =
-    let inv = c.loop-round.invariant in
-    absurd (goal_there inv.0 c.args.said.now _ _ _ inv.3 (search rules) (search rules) c.requires.4 inv.2)

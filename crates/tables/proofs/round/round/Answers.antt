@@ -1,6 +1,5 @@
 -- `tables::round::round` meets its contract. The invariant: the words are those after one use of each of the first steps.
 use borrow.Author.Rules.{rules}
-use mathlib.Core.Path.{◌≡◌}
 use lib.Seq.{get_or-take}
 use Rattle.words.proofs.Stepped.{use_none, use_more}
 use Rattle.tables.proofs.round.round.Goals as goal
@@ -16,8 +15,3 @@ loop-step-preserved c =
     let i = c.loop-step.step-index in
     use_more args.entities args.steps.now args.from.now args.to.now i c.loop-step.invariant
     (rw (get_or-take args.count args.steps.now i 0 (search rules)) at c.use_step.ensures)
-
-pub returns : goal.returns
-returns c =
-    let end : c.loop-step.step-index ≡ c.args.count = search rules in
-    rw (← end) c.loop-step.invariant
