@@ -1,10 +1,7 @@
 -- The line of an input: one that is too long for any question has the line of refusal 1 at 0, and no input has two lines.
-use Prim.Native.Nat.{ℕ, ◌<◌}
-use native.Mathlib.Omega.{arith}
-use mathlib.Core.Path.{◌≡◌, refl}
-use mathlib.Core.Logic.{inl, inr}
+use Prim.Native.Nat.{ℕ}
+use mathlib.Core.Path.{◌≡◌}
 use mathlib.Core.List.{List, [], ◌∷◌}
-use lib.ListN.{length, length-drop}
 use Rattle.base.specs.Refusals.{AllOnePlace}
 use Rattle.base.proofs.Refusals.{one_place_both, zero_place}
 use Rattle.bundle.specs.Layout.{names_of}
@@ -12,17 +9,13 @@ use Rattle.bundle.specs.Rows.{reader_rows}
 use Rattle.bundle.specs.Question.{question_row}
 use Rattle.bundle.proofs.Refusals.{reader_places}
 use Rattle.sheet.specs.Sheet.{sheet_row}
-use Rattle.answers.specs.Line.{refusal_line}
-use Rattle.said.specs.Line.{refuses}
 use Rattle.said.proofs.Line.{one_line}
 use Rattle.asked.specs.Input.{question_of}
 use Rattle.asked.specs.Prints.{AnsweredLine}
 use Rattle.asked.proofs.Answered.{answered_once}
-use Rattle.ask_with_sheet.specs.Input.{front_bytes, longest_input, sheet_of, bundle_of}
+use Rattle.ask_with_sheet.specs.Input.{sheet_of, bundle_of}
 use Rattle.ask_with_sheet.specs.Prints.{ask_rows, holding_of, Prints}
-
-pub prints_longer : (input : List ℕ) → longest_input < length input → Prints input (refusal_line 1 0)
-prints_longer input long = refuses 1 0 (inl (refl, (refl, inr (inl (omega (arith, length-drop front_bytes input)))))) refl
+pub use Rattle.ask_with_sheet.specs.Longer.{prints_longer}
 
 ask_places : (input : List ℕ) → AllOnePlace (ask_rows input)
 ask_places input =

@@ -4,24 +4,24 @@
 // question. Where standard input cannot be read to its end it prints no answer, but a message on standard error.
 #![tactic(auto)]
 
-ghost use Rattle.std.specs.Prelude.{◌≤◌, length};
 ghost use Rattle.answers.specs.Answer.{outcome_of};
 ghost use Rattle.search.specs.Promise.{lent};
 ghost use Rattle.search.specs.Enough.{Enough};
 ghost use Rattle.with_sheet.specs.Promise.{SheetSearch};
-ghost use Rattle.said.specs.Said.{HoldsAllowed, Read, Rightly};
+ghost use Rattle.said.specs.Said.{HoldsAllowed};
 ghost use Rattle.asked.specs.Input.{question_of};
 ghost use Rattle.ask_with_sheet.specs.Input.{longest_input, sheet_of, bundle_of};
 ghost use Rattle.ask_with_sheet.specs.Prints.{Prints, unreadable};
+ghost use Rattle.ask_with_sheet.specs.Longer.{prints_longer};
 
 use answers::Answer;
-use answers::line::{Text, empty, line, message, refusal};
+use answers::line::{Text, line, message, refusal};
 use asked::bundle_start;
 use base::byte;
 use bundle::question::Question;
-use input::{Input, fill};
+use input::fill;
 use rt0::Slip;
-use said::{Said, write_text};
+use said::{Program, say, write};
 use std::io::{Read, Write};
 use with_sheet::search_with_sheet;
 use words::table::Table;
@@ -89,41 +89,37 @@ fn line_for(input: &[u8]) -> Text
     line_with(input, &mut sure, &mut possible, &mut slip)
 }
 
-// What is said of a buffer that standard input was read into.
-fn say(got: Input, buffer: &[u8]) -> Said
-    requires { (longest_input ≤ length buffer.now) × Read got buffer.now }
-    ensures { Rightly Prints unreadable got buffer.now result }
-{
-    match got {
-        Input::Whole(n) => Said {
-            out: line_for(&buffer[..n]),
-            problem: empty(),
-        },
-        Input::Longer => Said {
-            out: refusal(1, 0),
-            problem: empty(),
-        },
-        Input::Failed(_) => Said {
-            out: empty(),
-            problem: message(b"ask_with_sheet: standard input cannot be read to its end\n"),
-        },
-    }
-}
+// The program, as one of those that answer with one text.
+struct App;
 
-// Writes what is rightly said of the buffer.
-fn write<O: Write, E: Write>(stdout: &mut O, stderr: &mut E, said: Said, got: Input, buffer: &[u8])
-    requires { Rightly Prints unreadable got buffer.now said }
-{
-    write_text(stdout, said.out);
-    write_text(stderr, said.problem);
+impl Program for App {
+    ghost prints = { Prints };
+
+    ghost unreadable = { unreadable };
+
+    ghost longest = { longest_input };
+
+    fn line_for(&self, input: &[u8]) -> Text {
+        line_for(input)
+    }
+
+    fn longer(&self) -> Text {
+        refusal(1, 0)
+    }
+
+    fn problem(&self) -> Text {
+        message(b"ask_with_sheet: standard input cannot be read to its end\n")
+    }
+
+    ghost prints_longer = { prints_longer };
 }
 
 // The program, over any reader and writers.
 fn run<I: Read, O: Write, E: Write>(stdin: &mut I, stdout: &mut O, stderr: &mut E) {
     let mut buffer = [0u8; Memory::BUFFER];
     let got = fill(stdin, &mut buffer);
-    let said = say(got, &buffer);
-    write(stdout, stderr, said, got, &buffer);
+    let said = say(&App, got, &buffer);
+    write(&App, stdout, stderr, said, got, &buffer);
 }
 
 fn main(rt: HostRuntime) {

@@ -8,6 +8,7 @@ use mathlib.Core.List.{List, [], ◌++◌}
 use lib.ListN.{length, take, drop, length-drop, length-take, get_or-append}
 use lib.Seq.{take_all, take-append-le, drop-append-le}
 use borrow.Author.Tests.{ne_eqb}
+use Rattle.std.specs.Prelude.{Result, Ok}
 use Rattle.rt0.specs.Credential.{Credential}
 use Rattle.base.specs.Refusals.{Clear, AllOnePlace, AllNumbered, refused}
 use Rattle.base.proofs.Flags.{not_true_false}
@@ -25,6 +26,7 @@ use Rattle.letters.proofs.Places.{text_short}
 use Rattle.answers.specs.Line.{Holds}
 use Rattle.input.specs.declared.Input.{Input}
 use Rattle.input.specs.declared.Input.TheVariants.{Longer}
+use Rattle.said.specs.Said.{PrintsLonger}
 use Rattle.said.specs.Line.{LineBy, refuses, gives}
 use Rattle.said.proofs.Line.{one_line}
 use Rattle.said.proofs.Saying.{by_longer}
@@ -127,9 +129,14 @@ prints_onward input long shown p more =
     (subst (λ (m : List ℕ). PrintsOf (entities_given input) (names_given input) m (text_given (input ++ more)) shown) marks
     (subst (λ (t : List ℕ). PrintsOf (entities_given input) (names_given input) (marks_given input) t shown) text same)))
 
--- what is said of the bytes of a full buffer is said of every input that is longer
-pub said_onward : (got : Input) (buffer text : List ℕ) (l : Listing) → longest_input < length buffer → got ≡ Longer → ListsAllowed text l (Prints buffer)
+-- what is listed of the bytes of a full buffer is listed of every input that is longer
+pub lists_onward : (buffer text : List ℕ) (l : Listing) → longest_input < length buffer → ListsAllowed text l (Prints buffer)
+    → ListsAllowed text l (PrintsLonger Prints buffer)
+lists_onward buffer text l long out = lists_others text l (λ shown p more some. prints_onward buffer long shown p more) out
+
+-- .. and so it is rightly said of it
+pub said_onward : {E : Type 0} (got : Result Input E) (buffer text : List ℕ) (l : Listing) → longest_input < length buffer → got ≡ Ok Longer → ListsAllowed text l (Prints buffer)
     → Holds l.problem [] → RightlyListed Prints unreadable got buffer text l
 said_onward got buffer text l long e out problem =
     by_longer (ListsAllowed text l) l.problem Prints unreadable got buffer e
-    (lists_others text l (λ shown p more some. prints_onward buffer long shown p more) out) problem
+    (lists_onward buffer text l long out) problem

@@ -6,22 +6,21 @@
 // on standard error.
 #![tactic(auto)]
 
-ghost use Rattle.std.specs.Prelude.{◌<◌, ◌≤◌, length, take, []};
+ghost use Rattle.std.specs.Prelude.{◌+◌, ◌≤◌, length, take, []};
 ghost use Rattle.answers.specs.Line.{Holds};
-ghost use Rattle.said.specs.Said.{Read};
 ghost use Rattle.writer.specs.Rows.{HeadWrong};
 ghost use Rattle.writer.specs.Promise.{Writes};
-ghost use Rattle.listed.specs.Listing.{ListsAllowed, RightlyListed};
+ghost use Rattle.listed.specs.Listing.{ListsAllowed};
 ghost use Rattle.desk.specs.Answer.{Gives};
 ghost use Rattle.bundle_from_lines.specs.Input.{longest_input};
 ghost use Rattle.bundle_from_lines.specs.Prints.{text_rows, head_rows, bundle_rows, BundleOf, BundleFrom, Prints, unreadable};
 
-use answers::line::{empty, message};
+use answers::line::{Text, message};
 use base::byte;
 use desk::listing_of;
-use input::{Input, fill};
+use input::fill;
 use letters::read::read_lines;
-use listed::{Listing, write_listing};
+use listed::{ListProgram, Listing, say, write};
 use std::io::{Read, Write};
 use writer::answer::Wrote;
 
@@ -142,34 +141,30 @@ fn listing_for(input: &[u8], bundle: &mut [u8]) -> Listing
     listing_of(wrote)
 }
 
-// What is said of a buffer that standard input was read into. Input that is longer than the buffer is answered by its first bytes.
-fn say(got: Input, buffer: &[u8], bundle: &mut [u8]) -> Listing
-    requires { (longest_input < length buffer.now) × Read got buffer.now × (3584 ≤ length bundle.old) }
-    ensures { RightlyListed Prints unreadable got buffer.now bundle.new result }
-{
-    match got {
-        Input::Whole(n) => listing_for(&buffer[..n], bundle),
-        Input::Longer => listing_for(buffer, bundle),
-        Input::Failed(_) => Listing {
-            length: 0,
-            line: empty(),
-            problem: message(b"bundle_from_lines: standard input cannot be read to its end\n"),
-        },
-    }
-}
+// The program, as one of those that answer with a list.
+struct App;
 
-// Writes what is rightly said of the buffer.
-fn write<O: Write, E: Write>(
-    stdout: &mut O,
-    stderr: &mut E,
-    listing: Listing,
-    got: Input,
-    buffer: &[u8],
-    bundle: &[u8],
-)
-    requires { RightlyListed Prints unreadable got buffer.now bundle.now listing }
-{
-    write_listing(stdout, stderr, listing, bundle);
+impl ListProgram for App {
+    ghost prints = { Prints };
+
+    ghost unreadable = { unreadable };
+
+    ghost least_buffer = { longest_input + 1 };
+
+    ghost least_text = { 3584 };
+
+    fn listing_for(&self, input: &[u8], text: &mut [u8]) -> Listing {
+        listing_for(input, text)
+    }
+
+    // What the buffer holds is answered, and is the answer to every input that goes on behind it.
+    fn longer(&self, buffer: &[u8], text: &mut [u8]) -> Listing {
+        listing_for(buffer, text)
+    }
+
+    fn problem(&self) -> Text {
+        message(b"bundle_from_lines: standard input cannot be read to its end\n")
+    }
 }
 
 // The program, over any reader and writers.
@@ -177,8 +172,8 @@ fn run<I: Read, O: Write, E: Write>(stdin: &mut I, stdout: &mut O, stderr: &mut 
     let mut buffer = [0u8; Memory::BUFFER];
     let got = fill(stdin, &mut buffer);
     let mut bundle = [0u8; Memory::BUNDLE];
-    let listing = say(got, &buffer, &mut bundle);
-    write(stdout, stderr, listing, got, &buffer, &bundle);
+    let listing = say(&App, got, &buffer, &mut bundle);
+    write(&App, stdout, stderr, listing, got, &buffer, &bundle);
 }
 
 fn main(rt: HostRuntime) {

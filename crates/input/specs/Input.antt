@@ -3,11 +3,9 @@
 -- The input comes in pieces, one for each read that gave any bytes. Which bytes came, how many, and whether a read failed no contract
 -- can say: a read of standard input promises nothing of them. So the promise says "there are pieces such that", and what follows of
 -- the buffer and of the answer.
-use Rattle.std.specs.Prelude.{ℕ, zero, suc, ◌+◌, ◌<◌, ◌≤◌, ◌≡◌, List, [], ◌∷◌, ◌++◌, length, take, drop, ℤ, negsuc, Result, Ok, Err}
+use Rattle.std.specs.Prelude.{ℕ, zero, suc, ◌+◌, ◌<◌, ◌≤◌, ◌≡◌, List, [], ◌∷◌, ◌++◌, length, take, drop, Option, Some, None, Result, Ok, Err}
 use Rattle.input.specs.declared.Input.{Input}
-use Rattle.input.specs.declared.Input.TheVariants.{Whole, Longer, Failed}
-use Rattle.input.specs.declared.Piece.{Piece}
-use Rattle.input.specs.declared.Piece.TheVariants.{Bytes, End, Failed as PieceFailed}
+use Rattle.input.specs.declared.Input.TheVariants.{Whole, Longer}
 
 -- pieces one after the other
 unfoldable pub joined : List (List ℕ) → List ℕ
@@ -19,16 +17,12 @@ unfoldable pub NoneEmpty : List (List ℕ) → Type 0
 NoneEmpty [] = Unit {0}
 NoneEmpty (piece ∷ pieces) = (0 < length piece) × NoneEmpty pieces
 
--- what stands for the answer of a read that failed: -1
-abbrev pub failure : ℤ
-failure = negsuc 0
-
 -- what is said where so many bytes of a buffer of that size were read: that they are the whole input; that the input is longer than the
--- buffer, which is then full; or that a read failed
-abbrev pub Says : Input → ℕ → ℕ → Type 0
-Says (Whole n) came size = n ≡ came
-Says Longer came size = came ≡ size
-Says (Failed answer) came size = answer ≡ failure
+-- buffer, which is then full; or the error of a read that failed, whatever came
+abbrev pub Says : {E : Type 0} → Result Input E → ℕ → ℕ → Type 0
+Says (Ok (Whole n)) came size = n ≡ came
+Says (Ok Longer) came size = came ≡ size
+Says (Err error) came size = Unit {0}
 
 -- So many bytes of the input came into a buffer: behind each piece stands the next one, no byte before a piece is touched, and behind
 -- the last one stands what stood there before. So the buffer keeps its length.
@@ -40,28 +34,28 @@ pub record Came (n : ℕ) (before after : List ℕ) : Type 0 where
   pub placed : after ≡ joined pieces ++ drop n before
 
 -- a buffer was filled, and what is said fits what came
-pub record Filled (before after : List ℕ) (said : Input) : Type 0 where
+pub record Filled {E : Type 0} (before after : List ℕ) (said : Result Input E) : Type 0 where
   pub count : ℕ
   pub came : Came count before after
   pub says : Says said count (length before)
 
--- what one read gave, by what it answered: an error where it failed, else how many bytes came
-abbrev pub given_by : {E : Type 0} → Result ℕ E → Piece
-given_by (Err error) = PieceFailed failure
-given_by (Ok zero) = End
-given_by (Ok (suc n)) = Bytes (suc n)
+-- what one read gave, by what it answered: its error where it failed, else how many bytes came, or none at the end of the input
+abbrev pub given_by : {E : Type 0} → Result ℕ E → Result (Option ℕ) E
+given_by (Err error) = Err error
+given_by (Ok zero) = Ok None
+given_by (Ok (suc n)) = Ok (Some (suc n))
 
 -- .. which a read of at most so many bytes that keeps its contract makes one of these
-abbrev pub Given : ℕ → Piece → Type 0
-Given most (Bytes n) = (0 < n) × (n ≤ most)
-Given most End = Unit {0}
-Given most (PieceFailed answer) = answer ≡ failure
+abbrev pub Given : {E : Type 0} → ℕ → Result (Option ℕ) E → Type 0
+Given most (Ok (Some n)) = (0 < n) × (n ≤ most)
+Given most (Ok None) = Unit {0}
+Given most (Err error) = Unit {0}
 
 -- what is said by what the last read gave, with so many bytes before it; where it gave bytes, there was no room for them
-abbrev pub said_after : Piece → ℕ → Input
-said_after (Bytes n) done = Longer
-said_after End done = Whole done
-said_after (PieceFailed answer) done = Failed answer
+abbrev pub said_after : {E : Type 0} → Result (Option ℕ) E → ℕ → Result Input E
+said_after (Ok (Some n)) done = Ok Longer
+said_after (Ok None) done = Ok (Whole done)
+said_after (Err error) done = Err error
 
 -- a buffer with a piece behind its first `done` bytes, and every other byte as it was
 abbrev pub placed_at : ℕ → List ℕ → List ℕ → List ℕ
@@ -76,7 +70,7 @@ pub record OneMore (done : ℕ) (before after : List ℕ) (n : ℕ) : Type 0 whe
   pub placed : after ≡ placed_at done piece before
 
 -- what one read did: a piece more, or nothing
-abbrev pub Added : ℕ → List ℕ → List ℕ → Piece → Type 0
-Added done before after (Bytes n) = OneMore done before after n
-Added done before after End = after ≡ before
-Added done before after (PieceFailed answer) = (after ≡ before) × (answer ≡ failure)
+abbrev pub Added : {E : Type 0} → ℕ → List ℕ → List ℕ → Result (Option ℕ) E → Type 0
+Added done before after (Ok (Some n)) = OneMore done before after n
+Added done before after (Ok None) = after ≡ before
+Added done before after (Err error) = after ≡ before

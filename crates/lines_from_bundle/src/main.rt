@@ -11,19 +11,18 @@ ghost use Rattle.bundle.specs.Rows.{reader_rows, Accepts};
 ghost use Rattle.text.specs.Written.{Wrote as WroteFrom};
 ghost use Rattle.letters.specs.Promise.{Writes};
 ghost use Rattle.answers.specs.Line.{Holds};
-ghost use Rattle.said.specs.Said.{Read};
-ghost use Rattle.listed.specs.Listing.{ListsAllowed, RightlyListed};
+ghost use Rattle.listed.specs.Listing.{ListsAllowed};
 ghost use Rattle.desk.specs.Answer.{Gives};
 ghost use Rattle.lines_from_bundle.specs.Gathered.{gathered};
 ghost use Rattle.lines_from_bundle.specs.Prints.{LinesFrom, Prints, unreadable};
 
-use answers::line::{empty, message, refusal};
+use answers::line::{Text, empty, message, refusal};
 use block::{Block, RecordPlace};
 use bundle::read::{Reading, Sizes, read};
 use desk::listing_of;
-use input::{Input, fill};
+use input::fill;
 use letters::write::write_lines;
-use listed::{Listing, write_listing};
+use listed::{ListProgram, Listing, say, write};
 use std::io::{Read, Write};
 use text::word;
 use writer::answer::Wrote;
@@ -119,38 +118,33 @@ fn listing_for(bundle: &[u8], text: &mut [u8]) -> Listing
     listing_of(wrote)
 }
 
-// What is said of a buffer that standard input was read into.
-fn say(got: Input, buffer: &[u8], text: &mut [u8]) -> Listing
-    requires { (longest_bundle ≤ length buffer.now) × Read got buffer.now × (9360 ≤ length text.old) }
-    ensures { RightlyListed Prints unreadable got buffer.now text.new result }
-{
-    match got {
-        Input::Whole(n) => listing_for(&buffer[..n], text),
-        Input::Longer => Listing {
+// The program, as one of those that answer with a list.
+struct App;
+
+impl ListProgram for App {
+    ghost prints = { Prints };
+
+    ghost unreadable = { unreadable };
+
+    ghost least_buffer = { longest_bundle };
+
+    ghost least_text = { 9360 };
+
+    fn listing_for(&self, input: &[u8], text: &mut [u8]) -> Listing {
+        listing_for(input, text)
+    }
+
+    fn longer(&self, buffer: &[u8], text: &mut [u8]) -> Listing {
+        Listing {
             length: 0,
             line: refusal(1, 0),
             problem: empty(),
-        },
-        Input::Failed(_) => Listing {
-            length: 0,
-            line: empty(),
-            problem: message(b"lines_from_bundle: standard input cannot be read to its end\n"),
-        },
+        }
     }
-}
 
-// Writes what is rightly said of the buffer.
-fn write<O: Write, E: Write>(
-    stdout: &mut O,
-    stderr: &mut E,
-    listing: Listing,
-    got: Input,
-    buffer: &[u8],
-    text: &[u8],
-)
-    requires { RightlyListed Prints unreadable got buffer.now text.now listing }
-{
-    write_listing(stdout, stderr, listing, text);
+    fn problem(&self) -> Text {
+        message(b"lines_from_bundle: standard input cannot be read to its end\n")
+    }
 }
 
 // The program, over any reader and writers.
@@ -158,8 +152,8 @@ fn run<I: Read, O: Write, E: Write>(stdin: &mut I, stdout: &mut O, stderr: &mut 
     let mut buffer = [0u8; Memory::BUFFER];
     let got = fill(stdin, &mut buffer);
     let mut text = [0u8; Memory::TEXT];
-    let listing = say(got, &buffer, &mut text);
-    write(stdout, stderr, listing, got, &buffer, &text);
+    let listing = say(&App, got, &buffer, &mut text);
+    write(&App, stdout, stderr, listing, got, &buffer, &text);
 }
 
 fn main(rt: HostRuntime) {

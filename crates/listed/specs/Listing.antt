@@ -1,6 +1,6 @@
 -- What a program of lists says: on standard output so many bytes of its text and then a line, one of which is empty, and a message on standard
 -- error. And what is rightly said.
-use Rattle.std.specs.Prelude.{ℕ, ◌≤◌, ◌≡◌, List, [], ◌++◌, length, take}
+use Rattle.std.specs.Prelude.{ℕ, ◌≤◌, ◌≡◌, List, [], ◌++◌, length, take, Result}
 use Rattle.answers.specs.Line.{refusal_line, Holds}
 use Rattle.input.specs.declared.Input.{Input}
 use Rattle.said.specs.Said.{RightlyBy}
@@ -16,7 +16,7 @@ pub record ListsAllowed (text : List ℕ) (l : Listing) (Allowed : List ℕ → 
   pub allowed : Allowed (take l.length text ++ line)
 
 -- what is rightly said of a buffer that standard input was read into
-abbrev pub RightlyListed : (List ℕ → List ℕ → Type 0) → List ℕ → Input → List ℕ → List ℕ → Listing → Type 0
+abbrev pub RightlyListed : {E : Type 0} → (List ℕ → List ℕ → Type 0) → List ℕ → Result Input E → List ℕ → List ℕ → Listing → Type 0
 RightlyListed Prints unreadable got buffer text l = RightlyBy (ListsAllowed text l) l.problem Prints unreadable got buffer
 
 -- what is said of an answer: the text that it left, or the line of the refusal

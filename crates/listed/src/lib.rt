@@ -1,12 +1,17 @@
-// What the programs of lists say, and the writing of it: a list that stands in lent memory, or the line of a refusal, and a message.
+// What the programs of lists say, and the writing of it: a list that stands in lent memory, or the line of a refusal, and a message. The
+// programs say and write by the functions of this crate.
 #![tactic(auto)]
 
-ghost use Rattle.std.specs.Prelude.{◌≡◌, take};
-ghost use Rattle.listed.specs.Listing.{Tells};
+ghost use Rattle.std.specs.Prelude.{ℕ, List, [], ◌≡◌, ◌≤◌, length, take};
+ghost use Rattle.answers.specs.Line.{Holds};
+ghost use Rattle.said.specs.Said.{PrintsLonger, Read};
+ghost use Rattle.listed.specs.Listing.{ListsAllowed, RightlyListed, Tells};
 
 use answers::line::{Text, empty, refusal};
+use input::Input;
 use lists::Listed;
 use said::write_text;
+use std::io;
 use std::io::Write;
 
 // So many bytes of the lent text and then a line on standard output, and a message on standard error.
@@ -33,6 +38,73 @@ pub fn listing_of(listed: Listed) -> Listing
             problem: empty(),
         },
     }
+}
+
+// A program that answers standard input with a list in lent memory.
+//
+// Each has a `run` of its own: a method of this trait that calls `say` would lead back to itself, which the borrow checker does not cover.
+pub trait ListProgram {
+    // What may be printed for an input.
+    ghost prints: { List ℕ → List ℕ → Type 0 };
+
+    // The message where standard input cannot be read to its end.
+    ghost unreadable: { List ℕ };
+
+    // The fewest bytes that the buffer for standard input may have.
+    ghost least_buffer: { ℕ };
+
+    // The fewest bytes that the memory for the text may have.
+    ghost least_text: { ℕ };
+
+    // The answer to an input.
+    fn listing_for(&self, input: &[u8], text: &mut [u8]) -> Listing
+        requires { least_text ≤ length text.old }
+        ensures { ListsAllowed text.new result (prints input.now) × Holds result.problem [] };
+
+    // The answer to every input that is longer than the buffer, which holds its first bytes.
+    fn longer(&self, buffer: &[u8], text: &mut [u8]) -> Listing
+        requires { (least_buffer ≤ length buffer.now) × (least_text ≤ length text.old) }
+        ensures { ListsAllowed text.new result (PrintsLonger prints buffer.now) × Holds result.problem [] };
+
+    // The text of the message.
+    fn problem(&self) -> Text
+        ensures { Holds result unreadable };
+}
+
+// What is said of a buffer that standard input was read into.
+pub fn say<P: ListProgram>(
+    program: &P,
+    got: io::Result<Input>,
+    buffer: &[u8],
+    text: &mut [u8],
+) -> Listing
+    requires { (P.least_buffer ≤ length buffer.now) × Read got buffer.now × (P.least_text ≤ length text.old) }
+    ensures { RightlyListed P.prints P.unreadable got buffer.now text.new result }
+{
+    match got {
+        Ok(Input::Whole(n)) => program.listing_for(&buffer[..n], text),
+        Ok(Input::Longer) => program.longer(buffer, text),
+        Err(_) => Listing {
+            length: 0,
+            line: empty(),
+            problem: program.problem(),
+        },
+    }
+}
+
+// Writes what is rightly said of the buffer.
+pub fn write<P: ListProgram, O: Write, E: Write>(
+    program: &P,
+    stdout: &mut O,
+    stderr: &mut E,
+    listing: Listing,
+    got: io::Result<Input>,
+    buffer: &[u8],
+    text: &[u8],
+)
+    requires { RightlyListed P.prints P.unreadable got buffer.now text.now listing }
+{
+    write_listing(stdout, stderr, listing, text);
 }
 
 // Writes bytes, which are the first ones of a text. Where they cannot be written nothing else is said.

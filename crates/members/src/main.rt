@@ -6,19 +6,18 @@
 
 ghost use Rattle.std.specs.Prelude.{◌≤◌, length, []};
 ghost use Rattle.answers.specs.Line.{Holds};
-ghost use Rattle.said.specs.Said.{Read};
 ghost use Rattle.lines.specs.Sizes.{members_bytes};
 ghost use Rattle.lists.specs.Promise.{MembersPromise};
-ghost use Rattle.listed.specs.Listing.{ListsAllowed, RightlyListed};
+ghost use Rattle.listed.specs.Listing.{ListsAllowed};
 ghost use Rattle.members.specs.Input.{longest_input, bundle_of, role_of};
 ghost use Rattle.members.specs.Prints.{Prints, unreadable};
 
-use answers::line::{empty, message, refusal};
+use answers::line::{Text, empty, message, refusal};
 use asked::bundle_start;
 use base::byte;
-use input::{Input, fill};
+use input::fill;
 use lines::Room;
-use listed::{Listing, listing_of, write_listing};
+use listed::{ListProgram, Listing, listing_of, say, write};
 use lists::{Listed, members};
 use std::io::{Read, Write};
 
@@ -58,38 +57,33 @@ fn listing_for(input: &[u8], text: &mut [u8]) -> Listing
     listing_of(listed)
 }
 
-// What is said of a buffer that standard input was read into.
-fn say(got: Input, buffer: &[u8], text: &mut [u8]) -> Listing
-    requires { (longest_input ≤ length buffer.now) × Read got buffer.now × (members_bytes ≤ length text.old) }
-    ensures { RightlyListed Prints unreadable got buffer.now text.new result }
-{
-    match got {
-        Input::Whole(n) => listing_for(&buffer[..n], text),
-        Input::Longer => Listing {
+// The program, as one of those that answer with a list.
+struct App;
+
+impl ListProgram for App {
+    ghost prints = { Prints };
+
+    ghost unreadable = { unreadable };
+
+    ghost least_buffer = { longest_input };
+
+    ghost least_text = { members_bytes };
+
+    fn listing_for(&self, input: &[u8], text: &mut [u8]) -> Listing {
+        listing_for(input, text)
+    }
+
+    fn longer(&self, buffer: &[u8], text: &mut [u8]) -> Listing {
+        Listing {
             length: 0,
             line: refusal(1, 0),
             problem: empty(),
-        },
-        Input::Failed(_) => Listing {
-            length: 0,
-            line: empty(),
-            problem: message(b"members: standard input cannot be read to its end\n"),
-        },
+        }
     }
-}
 
-// Writes what is rightly said of the buffer.
-fn write<O: Write, E: Write>(
-    stdout: &mut O,
-    stderr: &mut E,
-    listing: Listing,
-    got: Input,
-    buffer: &[u8],
-    text: &[u8],
-)
-    requires { RightlyListed Prints unreadable got buffer.now text.now listing }
-{
-    write_listing(stdout, stderr, listing, text);
+    fn problem(&self) -> Text {
+        message(b"members: standard input cannot be read to its end\n")
+    }
 }
 
 // The program, over any reader and writers.
@@ -97,8 +91,8 @@ fn run<I: Read, O: Write, E: Write>(stdin: &mut I, stdout: &mut O, stderr: &mut 
     let mut buffer = [0u8; Memory::BUFFER];
     let got = fill(stdin, &mut buffer);
     let mut text = [0u8; Room::MEMBERS];
-    let listing = say(got, &buffer, &mut text);
-    write(stdout, stderr, listing, got, &buffer, &text);
+    let listing = say(&App, got, &buffer, &mut text);
+    write(&App, stdout, stderr, listing, got, &buffer, &text);
 }
 
 fn main(rt: HostRuntime) {

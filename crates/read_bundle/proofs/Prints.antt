@@ -3,12 +3,9 @@
 use Prim.Native.Nat.{ℕ, ◌<◌}
 use native.Mathlib.Omega.{arith}
 use mathlib.Core.Path.{◌≡◌, refl, sym, ap, ◌∙◌}
-use mathlib.Core.Logic.{inl, inr}
 use mathlib.Core.List.{List}
-use lib.ListN.{length}
 use Rattle.bundle.specs.declared.read.Sizes.{Sizes}
 use Rattle.bundle.specs.declared.read.Reading.TheVariants.{Refused}
-use Rattle.bundle.specs.Layout.{longest_bundle}
 use Rattle.bundle.specs.Rows.{reader_rows, Reads, Accepts}
 use Rattle.bundle.proofs.Refusals.{reader_places}
 use Rattle.bundle.proofs.Accepted.{accepted_contents}
@@ -20,6 +17,7 @@ use Rattle.said.specs.Line.{refuses, gives}
 use Rattle.said.proofs.Saying.{one_held}
 use Rattle.said.proofs.Line.{one_line}
 use Rattle.read_bundle.specs.Prints.{AcceptedLine, Prints}
+pub use Rattle.read_bundle.specs.Longer.{prints_longer}
 
 -- what block 0 of an accepted bundle says are bytes
 pub sizes_small : (input : List ℕ) (s : Sizes) → Accepts input s → (s.entities < 256) × (s.names < 256) × (s.records < 256)
@@ -30,9 +28,6 @@ prints_refused input number place r = refuses number place (reads_refused input 
 
 pub prints_accepted : (input : List ℕ) (s : Sizes) → Accepts input s → Prints input (accepted_line s.entities s.names s.records)
 prints_accepted input s a = gives a.clear (ap (λ (t : Sizes). accepted_line t.entities t.names t.records) a.said)
-
-pub prints_longer : (input : List ℕ) → longest_bundle < length input → Prints input (refusal_line 1 0)
-prints_longer input long = refuses 1 0 (inl (refl, (refl, inr (inl long)))) refl
 
 pub prints_once : (input one two : List ℕ) → Prints input one → Prints input two → one ≡ two
 prints_once input = one_line (reader_rows input) (AcceptedLine input) (reader_places input) (λ one two e f. e ∙ sym f)

@@ -1,2 +1,3 @@
--- What the contracts of the program cite.
+-- What the contracts of the program cite. Prints: what it prints for an input. Longer: the law of an input that is longer than any bundle.
 pub mod Prints
+pub mod Longer

@@ -5,27 +5,27 @@ use native.Mathlib.Omega.{arith}
 use mathlib.Core.Path.{◌≡◌, refl}
 use mathlib.Core.List.{List, []}
 use lib.ListN.{length, take, length-append}
-use lib.IntN.{ℤ}
+use Rattle.std.specs.Prelude.{Result, Ok, Err}
 use Rattle.answers.specs.Line.{Holds}
 use Rattle.answers.specs.declared.line.Text.{Text}
 use Rattle.answers.proofs.Text.{one_text}
 use Rattle.input.specs.declared.Input.{Input}
-use Rattle.input.specs.declared.Input.TheVariants.{Whole, Longer, Failed}
+use Rattle.input.specs.declared.Input.TheVariants.{Whole, Longer}
 use Rattle.said.specs.declared.Said.{Said}
 use Rattle.said.specs.Said.{HoldsAllowed, PrintsLonger, RightlyBy, Rightly}
 
 -- whatever holds the output
-module _ (Shows : (List ℕ → Type 0) → Type 0) (problem : Text) (Prints : List ℕ → List ℕ → Type 0) (unreadable : List ℕ) (got : Input) (buffer : List ℕ) where
+module _ {E : Type 0} (Shows : (List ℕ → Type 0) → Type 0) (problem : Text) (Prints : List ℕ → List ℕ → Type 0) (unreadable : List ℕ) (got : Result Input E) (buffer : List ℕ) where
   -- the whole input
-  pub by_whole : (n : ℕ) → got ≡ Whole n → Shows (Prints (take n buffer)) → Holds problem [] → RightlyBy Shows problem Prints unreadable got buffer
+  pub by_whole : (n : ℕ) → got ≡ Ok (Whole n) → Shows (Prints (take n buffer)) → Holds problem [] → RightlyBy Shows problem Prints unreadable got buffer
   by_whole n e out said = rw e (out, said)
 
   -- an input longer than the buffer
-  pub by_longer : got ≡ Longer → Shows (PrintsLonger Prints buffer) → Holds problem [] → RightlyBy Shows problem Prints unreadable got buffer
+  pub by_longer : got ≡ Ok Longer → Shows (PrintsLonger Prints buffer) → Holds problem [] → RightlyBy Shows problem Prints unreadable got buffer
   by_longer e out said = rw e (out, said)
 
   -- a read that failed
-  pub by_failed : {answer : ℤ} → got ≡ Failed answer → Shows (λ shown. shown ≡ []) → Holds problem unreadable
+  pub by_failed : {error : E} → got ≡ Err error → Shows (λ shown. shown ≡ []) → Holds problem unreadable
       → RightlyBy Shows problem Prints unreadable got buffer
   by_failed e out said = rw e (out, said)
 
@@ -35,36 +35,36 @@ pub prints_every_longer : (Prints : List ℕ → List ℕ → Type 0) (buffer : 
 prints_every_longer Prints buffer longest line prints room more some = prints _ (omega (arith, length-append buffer more))
 
 -- where a text holds the output
-module _ (Prints : List ℕ → List ℕ → Type 0) (unreadable : List ℕ) (got : Input) (buffer : List ℕ) (said : Said) where
-  pub said_whole : (n : ℕ) → got ≡ Whole n → HoldsAllowed (Prints (take n buffer)) said.out → Holds said.problem []
+module _ {E : Type 0} (Prints : List ℕ → List ℕ → Type 0) (unreadable : List ℕ) (got : Result Input E) (buffer : List ℕ) (said : Said) where
+  pub said_whole : (n : ℕ) → got ≡ Ok (Whole n) → HoldsAllowed (Prints (take n buffer)) said.out → Holds said.problem []
       → Rightly Prints unreadable got buffer said
   said_whole n e out problem = by_whole (λ Allowed. HoldsAllowed Allowed said.out) said.problem Prints unreadable got buffer n e out problem
 
   pub said_longer : (longest : ℕ) (line : List ℕ) → ((input : List ℕ) → longest < length input → Prints input line) → longest ≤ length buffer
-      → got ≡ Longer → Holds said.out line → Holds said.problem [] → Rightly Prints unreadable got buffer said
+      → got ≡ Ok Longer → Holds said.out line → Holds said.problem [] → Rightly Prints unreadable got buffer said
   said_longer longest line prints room e out problem =
       by_longer (λ Allowed. HoldsAllowed Allowed said.out) said.problem Prints unreadable got buffer e
       (record { shown = line; holds = out; allowed = prints_every_longer Prints buffer longest line prints room }) problem
 
-  pub said_failed : {answer : ℤ} → got ≡ Failed answer → Holds said.out [] → Holds said.problem unreadable
+  pub said_failed : {error : E} → got ≡ Err error → Holds said.out [] → Holds said.problem unreadable
       → Rightly Prints unreadable got buffer said
   said_failed e out problem =
       by_failed (λ Allowed. HoldsAllowed Allowed said.out) said.problem Prints unreadable got buffer e
       (record { shown = []; holds = out; allowed = refl }) problem
 
 -- what is rightly said is two texts
-module _ (Prints : List ℕ → List ℕ → Type 0) (unreadable : List ℕ) where
-  pub out_shown : (got : Input) (buffer : List ℕ) (said : Said) → Rightly Prints unreadable got buffer said
+module _ {E : Type 0} (Prints : List ℕ → List ℕ → Type 0) (unreadable : List ℕ) where
+  pub out_shown : (got : Result Input E) (buffer : List ℕ) (said : Said) → Rightly Prints unreadable got buffer said
       → (shown : List ℕ) × Holds said.out shown
-  out_shown (Whole n) buffer said r = (_, r.0.holds)
-  out_shown Longer buffer said r = (_, r.0.holds)
-  out_shown (Failed answer) buffer said r = (_, r.0.holds)
+  out_shown (Ok (Whole n)) buffer said r = (_, r.0.holds)
+  out_shown (Ok Longer) buffer said r = (_, r.0.holds)
+  out_shown (Err error) buffer said r = (_, r.0.holds)
 
-  pub problem_shown : (got : Input) (buffer : List ℕ) (said : Said) → Rightly Prints unreadable got buffer said
+  pub problem_shown : (got : Result Input E) (buffer : List ℕ) (said : Said) → Rightly Prints unreadable got buffer said
       → (shown : List ℕ) × Holds said.problem shown
-  problem_shown (Whole n) buffer said r = (_, r.1)
-  problem_shown Longer buffer said r = (_, r.1)
-  problem_shown (Failed answer) buffer said r = (_, r.1)
+  problem_shown (Ok (Whole n)) buffer said r = (_, r.1)
+  problem_shown (Ok Longer) buffer said r = (_, r.1)
+  problem_shown (Err error) buffer said r = (_, r.1)
 
 -- where the allowed bytes are one line, there is one text
 pub one_held : {Allowed : List ℕ → Type 0} {a b : Text} → ((one two : List ℕ) → Allowed one → Allowed two → one ≡ two)

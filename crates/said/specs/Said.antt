@@ -1,10 +1,10 @@
 -- What a program rightly says of a buffer that standard input was read into: a text for standard output and one for standard error. It is
 -- said once for every program: which bytes may be printed for an input, and the message where it cannot be read, are parameters.
-use Rattle.std.specs.Prelude.{ℕ, ◌<◌, ◌≡◌, List, [], ◌++◌, length, take}
+use Rattle.std.specs.Prelude.{ℕ, ◌<◌, ◌≡◌, List, [], ◌++◌, length, take, Result, Ok, Err}
 use Rattle.answers.specs.declared.line.Text.{Text}
 use Rattle.answers.specs.Line.{Holds}
 use Rattle.input.specs.declared.Input.{Input}
-use Rattle.input.specs.declared.Input.TheVariants.{Whole, Longer, Failed}
+use Rattle.input.specs.declared.Input.TheVariants.{Whole, Longer}
 use Rattle.input.specs.Input.{Filled}
 use Rattle.said.specs.declared.Said.{Said}
 
@@ -19,7 +19,7 @@ pub record HoldsAllowed (Allowed : List ℕ → Type 0) (text : Text) : Type 0 w
   pub allowed : Allowed shown
 
 -- a buffer that standard input was read into, and what reading said of it
-abbrev pub Read : Input → List ℕ → Type 0
+abbrev pub Read : {E : Type 0} → Result Input E → List ℕ → Type 0
 Read got buffer = (before : List ℕ) × Filled before buffer got
 
 -- bytes that may be printed for every input longer than this buffer, which holds its first bytes
@@ -29,11 +29,11 @@ PrintsLonger Prints buffer shown = (more : List ℕ) → 0 < length more → Pri
 -- What is rightly said of the buffer, whatever holds the output: Shows says of bytes that may be printed that it holds such bytes. The whole
 -- input: bytes that may be printed for it. An input longer than the buffer: bytes that may be printed for every such input. A read failed: no
 -- output, and the message.
-abbrev pub RightlyBy : ((List ℕ → Type 0) → Type 0) → Text → (List ℕ → List ℕ → Type 0) → List ℕ → Input → List ℕ → Type 0
-RightlyBy Shows problem Prints unreadable (Whole n) buffer = Shows (Prints (take n buffer)) × Holds problem []
-RightlyBy Shows problem Prints unreadable Longer buffer = Shows (PrintsLonger Prints buffer) × Holds problem []
-RightlyBy Shows problem Prints unreadable (Failed answer) buffer = Shows (λ shown. shown ≡ []) × Holds problem unreadable
+abbrev pub RightlyBy : {E : Type 0} → ((List ℕ → Type 0) → Type 0) → Text → (List ℕ → List ℕ → Type 0) → List ℕ → Result Input E → List ℕ → Type 0
+RightlyBy Shows problem Prints unreadable (Ok (Whole n)) buffer = Shows (Prints (take n buffer)) × Holds problem []
+RightlyBy Shows problem Prints unreadable (Ok Longer) buffer = Shows (PrintsLonger Prints buffer) × Holds problem []
+RightlyBy Shows problem Prints unreadable (Err error) buffer = Shows (λ shown. shown ≡ []) × Holds problem unreadable
 
 -- .. where a text holds it
-abbrev pub Rightly : (List ℕ → List ℕ → Type 0) → List ℕ → Input → List ℕ → Said → Type 0
+abbrev pub Rightly : {E : Type 0} → (List ℕ → List ℕ → Type 0) → List ℕ → Result Input E → List ℕ → Said → Type 0
 Rightly Prints unreadable got buffer said = RightlyBy (λ Allowed. HoldsAllowed Allowed said.out) said.problem Prints unreadable got buffer

@@ -1,11 +1,14 @@
 // What a program says, on standard output and on standard error, and the writing of it. What is rightly said of standard input stands in
-// specs/, once for every program.
+// specs/, once for every program, and the programs that answer with one text say and write by the functions of this crate.
 #![tactic(auto)]
 
-ghost use Rattle.std.specs.Prelude.{◌≡◌};
-ghost use Rattle.said.specs.Said.{shown_by};
+ghost use Rattle.std.specs.Prelude.{ℕ, List, ◌≡◌, ◌<◌, ◌≤◌, length};
+ghost use Rattle.answers.specs.Line.{Holds, refusal_line};
+ghost use Rattle.said.specs.Said.{HoldsAllowed, Read, Rightly, shown_by};
 
-use answers::line::Text;
+use answers::line::{Text, empty};
+use input::Input;
+use std::io;
 use std::io::Write;
 
 // What a program says: on standard output and on standard error.
@@ -13,6 +16,71 @@ use std::io::Write;
 pub struct Said {
     pub out: Text,
     pub problem: Text,
+}
+
+// A program that answers standard input with one text.
+//
+// Each has a `run` of its own: a method of this trait that calls `say` would lead back to itself, which the borrow checker does not cover.
+pub trait Program {
+    // What may be printed for an input.
+    ghost prints: { List ℕ → List ℕ → Type 0 };
+
+    // The message where standard input cannot be read to its end.
+    ghost unreadable: { List ℕ };
+
+    // The bytes of the longest input that is not refused for its length.
+    ghost longest: { ℕ };
+
+    // The answer to an input.
+    fn line_for(&self, input: &[u8]) -> Text
+        ensures { HoldsAllowed (prints input.now) result };
+
+    // The answer to an input that is longer than the longest.
+    fn longer(&self) -> Text
+        ensures { Holds result (refusal_line 1 0) };
+
+    // The text of the message.
+    fn problem(&self) -> Text
+        ensures { Holds result unreadable };
+
+    // A longer input is refused 1 at 0.
+    ghost prints_longer: { (input : List ℕ) → longest < length input → prints input (refusal_line 1 0) };
+}
+
+// What is said of a buffer that standard input was read into.
+pub fn say<P: Program>(program: &P, got: io::Result<Input>, buffer: &[u8]) -> Said
+    requires { (P.longest ≤ length buffer.now) × Read got buffer.now }
+    ensures { Rightly P.prints P.unreadable got buffer.now result }
+{
+    match got {
+        Ok(Input::Whole(n)) => Said {
+            out: program.line_for(&buffer[..n]),
+            problem: empty(),
+        },
+        Ok(Input::Longer) => Said {
+            out: program.longer(),
+            problem: empty(),
+        },
+        Err(_) => Said {
+            out: empty(),
+            problem: program.problem(),
+        },
+    }
+}
+
+// Writes what is rightly said of the buffer.
+pub fn write<P: Program, O: Write, E: Write>(
+    program: &P,
+    stdout: &mut O,
+    stderr: &mut E,
+    said: Said,
+    got: io::Result<Input>,
+    buffer: &[u8],
+)
+    requires { Rightly P.prints P.unreadable got buffer.now said }
+{
+    write_text(stdout, said.out);
+    write_text(stderr, said.problem);
 }
 
 // Writes bytes, which are those that a text shows. Where they cannot be written nothing else is said.

@@ -1,0 +1,13 @@
+-- `lines_from_bundle`: an input longer than the buffer is refused 1 at 0.
+use mathlib.Core.Path.{refl}
+use Rattle.listed.proofs.Saying.{line_longer}
+use Rattle.lines_from_bundle.specs.Prints.{Prints}
+use Rattle.lines_from_bundle.proofs.Prints.{prints_longer}
+use Rattle.lines_from_bundle.proofs.AppListProgram.longer.Goals as goal
+
+pub returns : goal.returns
+returns c = (
+  line_longer c.args.text.now record { length = 0; line = c.refusal.result; problem = c.empty.result } Prints c.args.buffer.now _ _
+      prints_longer c.requires.0 refl c.refusal.ensures,
+  c.empty.ensures.0,
+)
