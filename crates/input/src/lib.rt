@@ -103,6 +103,7 @@ pub fn fill<R: Read>(stdin: &mut R, buffer: &mut [u8]) -> io::Result<Input>
 {
     let mut done: usize = 0;
     while done < buffer.len() {
+        // Not by `?`: that the end is no failure, and a failure no end, is what `said_after` promises.
         let piece = next_piece(stdin, buffer, done);
         let Ok(Some(n)) = piece else {
             return said_after(piece, done);
