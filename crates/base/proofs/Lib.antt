@@ -8,3 +8,4 @@ pub mod Ranges
 pub mod Refusals
 pub mod Judging
 pub mod Parts
+pub mod Refused

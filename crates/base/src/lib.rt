@@ -6,6 +6,8 @@ ghost use Rattle.std.specs.Prelude.{◌≡◌, ◌<◌};
 ghost use Rattle.base.specs.Byte.{byte_at};
 ghost use Rattle.base.specs.Range.{outside as outside_of};
 
+pub mod refusal;
+
 // Byte i of a slice, or 0 where it has none.
 pub fn byte(bytes: &[u8], i: usize) -> usize
     ensures { (result ≡ byte_at bytes.now i) × (result < 256) }
