@@ -1,28 +1,30 @@
 -- The lines of some answers and of an accepted bundle, and a message, byte by byte.
+use Rattle.std.specs.Prelude.{Ok, Err}
 use mathlib.Core.Path.{◌≡◌, refl}
 use mathlib.Core.List.{[], ◌∷◌}
-use Rattle.answers.specs.declared.Answer.TheVariants.{Yes, No, Unsure, Refused}
+use Rattle.base.specs.Refused.{refusal_at}
+use Rattle.answers.specs.declared.Answer.TheVariants.{Yes, No, Unsure}
 use Rattle.text.specs.Ascii.{ascii}
 use Rattle.text.specs.Decimal.{decimal, digits_within}
 use Rattle.answers.specs.Line.{accepted_line, message_of, line_of}
 
 -- `YES 4`
-yes_4 : line_of (Yes 4 6) ≡ 89 ∷ 69 ∷ 83 ∷ 32 ∷ 52 ∷ 10 ∷ []
+yes_4 : line_of (Ok (Yes 4 6)) ≡ 89 ∷ 69 ∷ 83 ∷ 32 ∷ 52 ∷ 10 ∷ []
 unfolding decimal digits_within
 yes_4 = refl
 
 -- `NO 0`
-no_0 : line_of (No 0) ≡ 78 ∷ 79 ∷ 32 ∷ 48 ∷ 10 ∷ []
+no_0 : line_of (Ok (No 0)) ≡ 78 ∷ 79 ∷ 32 ∷ 48 ∷ 10 ∷ []
 unfolding decimal digits_within
 no_0 = refl
 
 -- `UNSURE 7680`
-unsure_7680 : line_of (Unsure 7680) ≡ 85 ∷ 78 ∷ 83 ∷ 85 ∷ 82 ∷ 69 ∷ 32 ∷ 55 ∷ 54 ∷ 56 ∷ 48 ∷ 10 ∷ []
+unsure_7680 : line_of (Ok (Unsure 7680)) ≡ 85 ∷ 78 ∷ 83 ∷ 85 ∷ 82 ∷ 69 ∷ 32 ∷ 55 ∷ 54 ∷ 56 ∷ 48 ∷ 10 ∷ []
 unfolding decimal digits_within
 unsure_7680 = refl
 
 -- `REFUSED 10 6`
-refused_10_6 : line_of (Refused 10 6) ≡ 82 ∷ 69 ∷ 70 ∷ 85 ∷ 83 ∷ 69 ∷ 68 ∷ 32 ∷ 49 ∷ 48 ∷ 32 ∷ 54 ∷ 10 ∷ []
+refused_10_6 : line_of (Err (refusal_at 10 6)) ≡ 82 ∷ 69 ∷ 70 ∷ 85 ∷ 83 ∷ 69 ∷ 68 ∷ 32 ∷ 49 ∷ 48 ∷ 32 ∷ 54 ∷ 10 ∷ []
 unfolding decimal digits_within
 refused_10_6 = refl
 

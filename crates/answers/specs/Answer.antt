@@ -1,8 +1,9 @@
 -- The paper's number, place, verdict, rounds and lines for each case of an answer.
-use Rattle.std.specs.Prelude.{ℕ}
+use Rattle.std.specs.Prelude.{ℕ, Result, Ok, Err}
 use Rattle.rt0.specs.Completion.{Verdict, YES, NO, UNSURE}
+use Rattle.base.specs.declared.refusal.Refusal.{Refusal}
 use Rattle.answers.specs.declared.Answer.{Answer}
-use Rattle.answers.specs.declared.Answer.TheVariants.{Yes, No, Unsure, Refused}
+use Rattle.answers.specs.declared.Answer.TheVariants.{Yes, No, Unsure}
 
 pub record Outcome : Type 0 where
   pub number : ℕ
@@ -25,8 +26,8 @@ verdict_number UNSURE = 3
 abbrev pub answered : Verdict → ℕ → ℕ → Outcome
 answered v n k = record { number = 0; place = 0; verdict = verdict_number v; rounds = n; lines = k }
 
-abbrev pub outcome_of : Answer → Outcome
-outcome_of (Yes n k) = answered YES n k
-outcome_of (No n) = answered NO n 0
-outcome_of (Unsure n) = answered UNSURE n 0
-outcome_of (Refused n p) = refusal n p
+abbrev pub outcome_of : Result Answer (Refusal ℕ) → Outcome
+outcome_of (Ok (Yes n k)) = answered YES n k
+outcome_of (Ok (No n)) = answered NO n 0
+outcome_of (Ok (Unsure n)) = answered UNSURE n 0
+outcome_of (Err why) = refusal why.number why.place

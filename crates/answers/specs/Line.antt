@@ -1,10 +1,11 @@
 -- What the programs print, in ASCII. The lines of `ask` and of `read_bundle`: a word, its numbers in decimal with one space before
 -- each, and a newline. And the text that holds a line or a message.
-use Rattle.std.specs.Prelude.{ℕ, ◌-◌, ◌≤◌, ◌≡◌, cond, List, [], ◌++◌, length, take, drop, replicate, ltb}
+use Rattle.std.specs.Prelude.{ℕ, ◌-◌, ◌≤◌, ◌≡◌, cond, List, [], ◌++◌, length, take, drop, replicate, ltb, Result, Ok, Err}
 use Rattle.rt0.specs.Completion.{Verdict}
 use Rattle.rt0.specs.Completion as word
+use Rattle.base.specs.declared.refusal.Refusal.{Refusal}
 use Rattle.answers.specs.declared.Answer.{Answer}
-use Rattle.answers.specs.declared.Answer.TheVariants.{Yes, No, Unsure, Refused}
+use Rattle.answers.specs.declared.Answer.TheVariants.{Yes, No, Unsure}
 use Rattle.answers.specs.declared.line.Text.{Text}
 use Rattle.text.specs.Ascii.{ascii}
 pub use Rattle.text.specs.Ascii.{space, newline}
@@ -41,11 +42,11 @@ answer_line word.NO rounds = NO ++ space ++ decimal rounds ++ newline
 answer_line word.UNSURE rounds = UNSURE ++ space ++ decimal rounds ++ newline
 
 -- the line of an answer, or a refusal's line
-abbrev pub line_of : Answer → List ℕ
-line_of (Yes rounds lines) = answer_line word.YES rounds
-line_of (No rounds) = answer_line word.NO rounds
-line_of (Unsure rounds) = answer_line word.UNSURE rounds
-line_of (Refused number place) = refusal_line number place
+abbrev pub line_of : Result Answer (Refusal ℕ) → List ℕ
+line_of (Ok (Yes rounds lines)) = answer_line word.YES rounds
+line_of (Ok (No rounds)) = answer_line word.NO rounds
+line_of (Ok (Unsure rounds)) = answer_line word.UNSURE rounds
+line_of (Err why) = refusal_line why.number why.place
 
 -- how many bytes a text has room for
 abbrev pub capacity : ℕ

@@ -4,7 +4,7 @@
 pub mod line;
 pub mod pack;
 
-// The answer of the search.
+// The answer of the search to a question that is not refused.
 #[derive(Clone, Copy)]
 pub enum Answer {
     // The person is a member; a slip of so many lines says why.
@@ -13,6 +13,4 @@ pub enum Answer {
     No { rounds: u16 },
     // Neither.
     Unsure { rounds: u16 },
-    // The first refusal that applies, at its place.
-    Refused { number: u8, place: u16 },
 }

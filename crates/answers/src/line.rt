@@ -6,6 +6,7 @@ ghost use Rattle.text.specs.Written.{Wrote};
 ghost use Rattle.answers.specs.Line.{newline, refusal_line, accepted_line, message_of, line_of, Holds};
 
 use crate::Answer;
+use base::refusal::Refusal;
 
 // A text in the making or made: the first `length` bytes, with zeros past them.
 #[derive(Clone, Copy)]
@@ -95,14 +96,16 @@ pub fn message(words: &[u8]) -> Text
     empty().word(words)
 }
 
-// The line of an answer.
-pub fn line(answer: Answer) -> Text
+// The line of an answer, or of a refusal.
+pub fn line(answer: Result<Answer, Refusal<u16>>) -> Text
     ensures { Holds result (line_of answer) }
 {
     match answer {
-        Answer::Yes { rounds, lines: _ } => word_and_number(b"YES ", rounds),
-        Answer::No { rounds } => word_and_number(b"NO ", rounds),
-        Answer::Unsure { rounds } => word_and_number(b"UNSURE ", rounds),
-        Answer::Refused { number, place } => refusal(number, place),
+        Ok(answer) => match answer {
+            Answer::Yes { rounds, lines: _ } => word_and_number(b"YES ", rounds),
+            Answer::No { rounds } => word_and_number(b"NO ", rounds),
+            Answer::Unsure { rounds } => word_and_number(b"UNSURE ", rounds),
+        },
+        Err(refused) => refusal(refused.number, refused.place),
     }
 }

@@ -16,6 +16,7 @@ use answers::Answer;
 use answers::line::{Text, line, message, refusal};
 use asked::bundle_start;
 use base::byte;
+use base::refusal::Refusal;
 use input::fill;
 use rt0::Slip;
 use said::{Program, say, write};
@@ -41,7 +42,12 @@ impl Memory {
 }
 
 // The answer to the bytes of a question: the person, the entity, the role name, then the bundle.
-fn ask(input: &[u8], sure: &mut [u32], possible: &mut [u32], slip: &mut [u8]) -> Answer
+fn ask(
+    input: &[u8],
+    sure: &mut [u32],
+    possible: &mut [u32],
+    slip: &mut [u8],
+) -> Result<Answer, Refusal<u16>>
     ensures { Promise (bundle_of input.now) (question_of input.now)
         (lent sure.old possible.old slip.old)
         (lent sure.new possible.new slip.new) (outcome_of result) }

@@ -1,8 +1,10 @@
 -- What the search with a sheet answers to an input's question, with enough memory, is what may be printed for that input.
+use Rattle.std.specs.Prelude.{Result}
 use Prim.Native.Nat.{ℕ, ◌-◌, min}
 use mathlib.Core.Path.{◌≡◌, subst, subst₂}
 use mathlib.Core.List.{List, [], ◌∷◌}
 use lib.ListN.{length, take, drop}
+use Rattle.base.specs.declared.refusal.Refusal.{Refusal}
 use Rattle.base.specs.Byte.{byte_at}
 use Rattle.base.specs.Refusals.{Clear, refused, passed}
 use Rattle.bundle.specs.declared.question.Question.{Question}
@@ -36,7 +38,7 @@ module _ (input : List ℕ) (m : Lent) (enough : Enough m) where
   no_memory_row : Clear (lent_row m ∷ [])
   no_memory_row = (enough_memory (bundle_of input) (question_of input) m (enough_right m enough), tt)
 
-  pub prints_answer : (after : Lent) (answer : Answer) → SheetSearch (bundle_of input) (sheet_of input) (question_of input) m after (outcome_of answer)
+  pub prints_answer : (after : Lent) (answer : Result Answer (Refusal ℕ)) → SheetSearch (bundle_of input) (sheet_of input) (question_of input) m after (outcome_of answer)
       → Prints input (line_of answer)
   prints_answer after answer (refused d kept) =
       prints_refused (holding_of input) (question_of input) (ask_rows input) (lent_row m ∷ []) no_memory_row answer _ _ d kept.outcome

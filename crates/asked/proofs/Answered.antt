@@ -1,5 +1,6 @@
 -- The line of an answer, whatever table of refusals it is judged by and whatever the question is asked of: there is one for the word and the
 -- rounds, and that of a refusal that is due, or else of the word and the rounds, is what may be printed.
+use Rattle.std.specs.Prelude.{Result, Ok, Err}
 use Prim.Native.Nat.{ℕ, zero, suc}
 use mathlib.Core.Path.{◌≡◌, refl, ap, ap₂, sym, subst, ◌∙◌}
 use mathlib.Core.List.{List, ◌++◌}
@@ -8,11 +9,12 @@ use Rattle.rt0.specs.Table.{Rounds}
 use Rattle.rt0.specs.Holding.{Holding}
 use Rattle.rt0.proofs.Tables.{rounds_unique}
 use Rattle.rt0.proofs.Possible.{answer_unique}
+use Rattle.base.specs.declared.refusal.Refusal.{Refusal}
 use Rattle.base.specs.Refusals.{Row, Clear, Due}
 use Rattle.bundle.specs.declared.question.Question.{Question}
 use Rattle.bundle.specs.Question.{role_asked}
 use Rattle.answers.specs.declared.Answer.{Answer}
-use Rattle.answers.specs.declared.Answer.TheVariants.{Yes, No, Unsure, Refused}
+use Rattle.answers.specs.declared.Answer.TheVariants.{Yes, No, Unsure}
 use Rattle.answers.specs.Answer.{Outcome, refusal, answered, outcome_of}
 use Rattle.answers.specs.Line.{refusal_line, answer_line, line_of}
 use Rattle.said.specs.Line.{LineBy}
@@ -30,11 +32,11 @@ abbrev outcome_line : Outcome → List ℕ
 outcome_line o = line_by o.verdict o
 
 -- the line of an answer is that of its numbers
-line_of_lem : (answer : Answer) → line_of answer ≡ outcome_line (outcome_of answer)
-line_of_lem (Yes rounds lines) = refl
-line_of_lem (No rounds) = refl
-line_of_lem (Unsure rounds) = refl
-line_of_lem (Refused number place) = refl
+line_of_lem : (answer : Result Answer (Refusal ℕ)) → line_of answer ≡ outcome_line (outcome_of answer)
+line_of_lem (Ok (Yes rounds lines)) = refl
+line_of_lem (Ok (No rounds)) = refl
+line_of_lem (Ok (Unsure rounds)) = refl
+line_of_lem (Err why) = refl
 
 word_line : (word : Verdict) (rounds lines : ℕ) → outcome_line (answered word rounds lines) ≡ answer_line word rounds
 word_line YES rounds lines = refl
@@ -51,7 +53,7 @@ module _ (h : Holding) (q : Question) where
       a.line ∙ ap₂ answer_line word rounds ∙ sym b.line
 
   -- the program's rows, and those behind them that never apply
-  module _ (rows rest : List Row) (none : Clear rest) (answer : Answer) where
+  module _ (rows rest : List Row) (none : Clear rest) (answer : Result Answer (Refusal ℕ)) where
     pub prints_refused : (number place : ℕ) → Due (rows ++ rest) number place → outcome_of answer ≡ refusal number place
         → LineBy rows (AnsweredLine h q) (line_of answer)
     prints_refused number place d outcome =

@@ -1,5 +1,6 @@
 -- What an accepted bundle is: E, R, N, marks and records are what the bytes say, every record is valid over E and R, and the number
 -- of blocks fits. The crates above cite these laws and not the definitions' text.
+use Rattle.std.specs.Prelude.{Some, None}
 use Prim.Native.Nat.{ℕ, zero, suc, ◌+◌, ◌-◌, ◌*◌, ◌≤◌, ◌<◌}
 use native.Mathlib.Decide.{dec_lt}
 use native.Mathlib.Omega.{arith}
@@ -23,7 +24,7 @@ use Rattle.records.specs.Bytes.{credential_in}
 use Rattle.records.specs.Form.{record_in, credential_of}
 use Rattle.records.proofs.ValidRecord.{valid_record, record_is}
 use Rattle.bundle.specs.declared.read.Sizes.{Sizes}
-use Rattle.bundle.specs.declared.access.Mark.TheVariants.{Present, Absent, Unmarked}
+use Rattle.bundle.specs.declared.access.Mark.TheVariants.{Present, Absent}
 use Rattle.bundle.specs.Edition.{most_names, edition_for}
 use Rattle.bundle.specs.Layout.{entities_of, names_of, records_of, blocks_for, record_bytes, bad_record}
 use Rattle.bundle.specs.Rows.{Accepts}
@@ -47,8 +48,8 @@ pub record Contents (bytes : List ℕ) (s : Sizes) : Type 0 where
   pub records_most : s.records ≤ 240
   pub size : length bytes ≡ 512 * blocks_for s.records
   -- every shelf up to E has a mark, and no other
-  pub marked : (A : ℕ) → IsEntity s.entities A → (mark_of bytes A ≡ Present) ⊎ (mark_of bytes A ≡ Absent)
-  pub unmarked : (A : ℕ) → s.entities < A → mark_of bytes A ≡ Unmarked
+  pub marked : (A : ℕ) → IsEntity s.entities A → (mark_of bytes A ≡ Some Present) ⊎ (mark_of bytes A ≡ Some Absent)
+  pub unmarked : (A : ℕ) → s.entities < A → mark_of bytes A ≡ None
   -- every credential is valid
   pub valid : AllValid s.entities s.names (held bytes)
 
@@ -98,14 +99,14 @@ valid_credentials bytes (suc n) h c m =
 -- the mark of A is what byte 3 + A says
 module _ (bytes : List ℕ) (A : ℕ) where
   mark_of_lem : 1 ≤ A → A ≤ 32 → (byte_at bytes (3 + A) ≡ 1) ⊎ (byte_at bytes (3 + A) ≡ 2)
-      → (mark_of bytes A ≡ Present) ⊎ (mark_of bytes A ≡ Absent)
+      → (mark_of bytes A ≡ Some Present) ⊎ (mark_of bytes A ≡ Some Absent)
   mark_of_lem l m (inl e) = inl (rw (inside_flag 32 A l m, e))
   mark_of_lem l m (inr e) = inr (rw (inside_flag 32 A l m, e))
 
-  no_mark : 1 ≤ A → (A ≤ 32 → byte_at bytes (3 + A) ≡ 0) → mark_of bytes A ≡ Unmarked
+  no_mark : 1 ≤ A → (A ≤ 32 → byte_at bytes (3 + A) ≡ 0) → mark_of bytes A ≡ None
   no_mark l h = far (dec_lt 32 A)
     where
-      far : Dec (32 < A) → mark_of bytes A ≡ Unmarked
+      far : Dec (32 < A) → mark_of bytes A ≡ None
       far (yes m) = rw (above_flag 32 A m)
       far (no m) = let k : A ≤ 32 = omega arith in rw (inside_flag 32 A l k, h k)
 

@@ -1,4 +1,5 @@
 -- A part of the bundle that a function is lent is a block of the bundle, so what the function found holds of that block.
+use Rattle.std.specs.Prelude.{Option, None}
 use Prim.Native.Nat.{ℕ, ◌+◌, ◌-◌, ◌*◌, ◌<◌, ◌≤◌}
 use mathlib.Core.Path.{◌≡◌, subst}
 use mathlib.Core.Bool.{Bool, false}
@@ -11,7 +12,6 @@ use Rattle.base.specs.Range.{outside}
 use Rattle.base.proofs.Parts.{part_is, found_part}
 use Rattle.block.specs.Block.{block, block_of, start_of}
 use Rattle.records.specs.declared.form.Record.{Record}
-use Rattle.records.specs.declared.form.Record.TheVariants as variant
 use Rattle.records.specs.declared.mistake.Mistake.{Mistake}
 use Rattle.records.specs.Mistake.{Mistaken, mistake_number, mistake_kind, kind_number, record_wrong}
 use Rattle.records.proofs.Mistakes.{mistake_number_lem}
@@ -52,13 +52,13 @@ wrong_found bytes sizes i k start found e b s h =
     (subst (λ (t : Sizes). found ≡ record_wrong t.entities t.names (take 12 (drop start (part bytes k)))) e h)
 
 -- what is wrong with the twelve bytes of a part of a block
-pub mistaken_part : (s : Sizes) (bytes : List ℕ) (start : ℕ) (m : Mistake)
+pub mistaken_part : (s : Sizes) (bytes : List ℕ) (start : ℕ) (m : Option Mistake)
     → Mistaken s.entities s.names (take (start + 12 - start) (drop start bytes)) m
     → Mistaken s.entities s.names (take 12 (drop start bytes)) m
 mistaken_part s bytes start m h = subst (λ (r : List ℕ). Mistaken s.entities s.names r m) (part_is bytes start 12) h
 
 -- and so with record i
-pub mistake_found : (bytes : List ℕ) (s : Sizes) (i k start : ℕ) (m : Mistake) → s ≡ sizes_in bytes → k ≡ block_of i → start ≡ start_of i
+pub mistake_found : (bytes : List ℕ) (s : Sizes) (i k start : ℕ) (m : Option Mistake) → s ≡ sizes_in bytes → k ≡ block_of i → start ≡ start_of i
     → Mistaken s.entities s.names (take 12 (drop start (part bytes k))) m → mistake_number m ≡ mistake_in bytes i
 mistake_found bytes s i k start m e b t h =
     record_found (λ (r : List ℕ). kind_number (mistake_kind (sizes_in bytes).entities (sizes_in bytes).names r)) bytes i k start (mistake_number m) b t
@@ -67,12 +67,12 @@ mistake_found bytes s i k start m e b t h =
 
 -- a record whose block the bundle does not have whole
 pub record_cut : (bytes : List ℕ) (n k : ℕ) → outside 240 n ≡ false → k ≡ block_of (n - 1) → length bytes < 512 * k + 512
-    → variant.Nothing ≡ record_of bytes n
+    → None ≡ record_of bytes n
 unfolding record_of
 record_cut bytes n k among b h = rw (among, ← b, lt-ltb (length bytes) (512 * k + 512) h)
 
 -- and one whose block it has
-pub record_read : (bytes : List ℕ) (n k start : ℕ) (found : Record) → outside 240 n ≡ false → k ≡ block_of (n - 1)
+pub record_read : (bytes : List ℕ) (n k start : ℕ) (found : Option Record) → outside 240 n ≡ false → k ≡ block_of (n - 1)
     → start ≡ start_of (n - 1) → 512 * k + 512 ≤ length bytes → found ≡ record_in (take 12 (drop start (part bytes k)))
     → found ≡ record_of bytes n
 unfolding record_of

@@ -1,5 +1,6 @@
 -- What the reader computes is what its table of refusals says: the tests decide the rows. So its answer is the refusal that is due, or what
 -- block 0 says where no row applies; and any two answers that keep the promise are equal.
+use Rattle.std.specs.Prelude.{Result, Ok}
 use Prim.Native.Nat.{ℕ, ◌-◌, ◌%◌, ◌≤◌}
 use mathlib.Core.Path.{◌≡◌, refl}
 use mathlib.Core.Bool.{not}
@@ -8,17 +9,17 @@ use mathlib.Core.List.{List}
 use native.Mathlib.Omega.{arith}
 use lib.ListN.{length}
 use lib.Dec.{eqb}
+use Rattle.base.specs.declared.refusal.Refusal.{Refusal as Refused}
+use Rattle.base.specs.Refused.{number_of, place_of}
 use Rattle.base.specs.Refusals.{OnePlace, FromOne, AllOnePlace, AllNumbered, Due, Clear, Refusal, given, clear, refused, passed, first}
 use Rattle.base.specs.Refusals.{test, zero_if, lowest_from_one}
 use Rattle.base.proofs.Flags.{or_tells_three, eq_tells, lt_tells, not_tells, flag_tells}
 use Rattle.base.proofs.Refusals.{zero_place, lowest_place, from_one_place, zero_finds, lowest_finds_from_one}
 use Rattle.base.proofs.Refusals.{Told, due, none_due, told_more, judged_exactly, judged_clear, judged_given}
 use Rattle.bundle.specs.declared.read.Sizes.{Sizes}
-use Rattle.bundle.specs.declared.read.Reading.{Reading}
-use Rattle.bundle.specs.declared.read.Reading.TheVariants.{Accepted}
 use Rattle.block.specs.Block.{block}
 use Rattle.bundle.specs.Layout.{longest_bundle, length_wrong, blocks, records_of, first_wrong, blocks_for, bad_check, bad_beside}
-use Rattle.bundle.specs.Rows.{MistakeAt, record_rows, reader_rows, number_of, place_of, Reads, Accepts}
+use Rattle.bundle.specs.Rows.{MistakeAt, record_rows, reader_rows, Reads, Accepts}
 use Rattle.bundle.specs.Reading.{record_tests, beside_tests, count_tests, first_tests, check_tests, reader_tests, read_by, read_of, reading_for}
 use Rattle.bundle.specs.Each.{each_place}
 use Rattle.bundle.proofs.Each.{each_place_lem, each_finds}
@@ -64,21 +65,21 @@ module _ (bytes : List ℕ) where
       by clear (none_due c) = passed refl refl c refl
 
   -- any answer that is what the tests give
-  pub reads_as : (r : Reading) → r ≡ read_of bytes → Reads bytes r
+  pub reads_as : (r : Result Sizes (Refused ℕ)) → r ≡ read_of bytes → Reads bytes r
   reads_as r e = rw e reads
 
   -- an answer that keeps the promise: a refusal that is due, or an accepted bundle
-  pub reads_accepted : (s : Sizes) → Reads bytes (Accepted s) → Accepts bytes s
+  pub reads_accepted : (s : Sizes) → Reads bytes (Ok s) → Accepts bytes s
   reads_accepted s p =
       let (c, said) = judged_given (reader_rows bytes) reader_places reader_numbers p refl in
       record { clear = c; said = said }
 
-  pub accepts_reads : (s : Sizes) → Accepts bytes s → Reads bytes (Accepted s)
+  pub accepts_reads : (s : Sizes) → Accepts bytes s → Reads bytes (Ok s)
   accepts_reads s a = passed refl refl a.clear a.said
 
   -- number and place exactly when due; number 0 exactly when no row applies
-  pub reader_exactly : (r : Reading) → Reads bytes r → (n p : ℕ) → 1 ≤ n → ((number_of r ≡ n) × (place_of r ≡ p)) ↔ Due (reader_rows bytes) n p
+  pub reader_exactly : (r : Result Sizes (Refused ℕ)) → Reads bytes r → (n p : ℕ) → 1 ≤ n → ((number_of r ≡ n) × (place_of r ≡ p)) ↔ Due (reader_rows bytes) n p
   reader_exactly r = judged_exactly (reader_rows bytes) reader_places reader_numbers
 
-  pub reader_clear : (r : Reading) → Reads bytes r → (number_of r ≡ 0) ↔ Clear (reader_rows bytes)
+  pub reader_clear : (r : Result Sizes (Refused ℕ)) → Reads bytes r → (number_of r ≡ 0) ↔ Clear (reader_rows bytes)
   reader_clear r = judged_clear (reader_rows bytes) reader_places reader_numbers

@@ -1,4 +1,5 @@
 -- The stages of the reader: each answers at the first refusal that applies, and else hands on.
+use Rattle.std.specs.Prelude.{Ok, Err}
 use Prim.Native.Nat.{ℕ, ◌+◌, ◌-◌, ◌*◌, ◌/◌, ◌%◌, ◌<◌, ◌≤◌}
 use mathlib.Core.Path.{◌≡◌, ◌∙◌, ap}
 use mathlib.Core.Bool.{Bool, true, false, not, ◌||◌}
@@ -8,12 +9,12 @@ use lib.Dec.{eqb, ltb}
 use native.Mathlib.Omega.{arith}
 use borrow.Author.Tests.{lt-ltb, le-ltb, eq-eqb, ne_eqb, eqb-true, eqb-false, ltb-false, not-false}
 use Rattle.rt0.specs.Word.{bits_below}
+use Rattle.base.specs.Refused.{refusal_at}
 use Rattle.base.specs.Byte.{byte_at}
 use Rattle.base.specs.Lowest.{lowest, any_below}
 use Rattle.base.proofs.Flags.{or_false}
 use Rattle.block.specs.Block.{block}
 use Rattle.bundle.specs.declared.read.Sizes.{Sizes}
-use Rattle.bundle.specs.declared.read.Reading.TheVariants.{Accepted, Refused}
 use Rattle.bundle.specs.Edition.{edition_for}
 use Rattle.bundle.specs.Layout.{longest_bundle, length_wrong, blocks, entities_of, names_of, records_of, sizes_in, first_byte_wrong, first_wrong, blocks_for, bad_check, bad_beside, bad_record}
 use Rattle.bundle.specs.Reading.{mistake_in, record_tests, beside_tests, count_tests, first_tests, check_tests, reader_tests, read_by, read_of}
@@ -34,18 +35,18 @@ records_said bytes s e = ap (λ (t : Sizes). t.records) e
 
 module _ (bytes : List ℕ) where
   pub record_refused : (s : Sizes) (i : ℕ) → s ≡ sizes_in bytes → i ≡ lowest (bad_record bytes) s.records → i < s.records
-      → (number : ℕ) → number ≡ mistake_in bytes i → Refused number (i + 1) ≡ read_by bytes (record_tests bytes)
+      → (number : ℕ) → number ≡ mistake_in bytes i → Err (refusal_at number (i + 1)) ≡ read_by bytes (record_tests bytes)
   unfolding read_by record_tests
   record_refused s i e l h number m = rw (← records_said bytes s e, ← l, lt-ltb i s.records h, m)
 
   pub record_passed : (s : Sizes) (i : ℕ) → s ≡ sizes_in bytes → i ≡ lowest (bad_record bytes) s.records → s.records ≤ i
-      → Accepted s ≡ read_by bytes (record_tests bytes)
+      → Ok s ≡ read_by bytes (record_tests bytes)
   unfolding read_by record_tests
   record_passed s i e l h =
       rw (← records_said bytes s e, ← l, le-ltb i s.records h, e)
 
   pub beside_refused : (n j : ℕ) → n ≡ blocks bytes → j ≡ lowest (bad_beside bytes) (n - 1) → j < n - 1
-      → Refused 5 (j + 1) ≡ read_by bytes (beside_tests bytes)
+      → Err (refusal_at 5 (j + 1)) ≡ read_by bytes (beside_tests bytes)
   unfolding read_by beside_tests
   beside_refused n j e l h = rw (← e, ← l, lt-ltb j (n - 1) h)
 
@@ -55,7 +56,7 @@ module _ (bytes : List ℕ) where
   beside_passed n j e l h = rw (← e, ← l, le-ltb j (n - 1) h)
 
   pub count_refused : (s : Sizes) (n : ℕ) → s ≡ sizes_in bytes → n ≡ blocks bytes → (n ≡ blocks_for s.records → ⊥)
-      → Refused 4 0 ≡ read_by bytes (count_tests bytes)
+      → Err (refusal_at 4 0) ≡ read_by bytes (count_tests bytes)
   unfolding read_by count_tests
   count_refused s n d e h = rw (← e, ← records_said bytes s d, ne_eqb n (blocks_for s.records) h)
 
@@ -64,7 +65,7 @@ module _ (bytes : List ℕ) where
   unfolding read_by count_tests
   count_passed s n d e h = rw (← e, ← records_said bytes s d, eq-eqb n (blocks_for s.records) h)
 
-  pub first_refused : first_wrong (block bytes 0) ≡ true → Refused 3 0 ≡ read_by bytes (first_tests bytes)
+  pub first_refused : first_wrong (block bytes 0) ≡ true → Err (refusal_at 3 0) ≡ read_by bytes (first_tests bytes)
   unfolding read_by first_tests
   first_refused h = rw h
 
@@ -72,7 +73,7 @@ module _ (bytes : List ℕ) where
   unfolding read_by first_tests
   first_passed h = rw h
 
-  pub check_refused : (bad : ℕ) → bad ≡ bits_below (bad_check bytes) (blocks bytes) → 0 < bad → Refused 2 bad ≡ read_by bytes (check_tests bytes)
+  pub check_refused : (bad : ℕ) → bad ≡ bits_below (bad_check bytes) (blocks bytes) → 0 < bad → Err (refusal_at 2 bad) ≡ read_by bytes (check_tests bytes)
   unfolding read_by check_tests
   check_refused bad e h = rw (← e, lt-ltb 0 bad h)
 
@@ -81,7 +82,7 @@ module _ (bytes : List ℕ) where
   unfolding read_by check_tests
   check_passed bad e h = rw (← e, h)
 
-  pub length_refused : length_wrong (length bytes) ≡ true → Refused 1 0 ≡ read_of bytes
+  pub length_refused : length_wrong (length bytes) ≡ true → Err (refusal_at 1 0) ≡ read_of bytes
   unfolding read_by reader_tests
   length_refused h = rw h
 

@@ -1,5 +1,5 @@
 -- What a bundle holds for RT0: its shelves, the credentials that its records are and their numbers, and so what a question is asked of.
-use Rattle.std.specs.Prelude.{ℕ, zero, suc, List, [], ◌∷◌, ◌++◌}
+use Rattle.std.specs.Prelude.{ℕ, zero, suc, List, [], ◌∷◌, ◌++◌, Option, Some, None}
 use Rattle.rt0.specs.Credential.{Credential}
 use Rattle.rt0.specs.Completion.{Shelf, Open, open_by}
 use Rattle.rt0.specs.Completion.{Present as PresentShelf, Absent as AbsentShelf}
@@ -7,14 +7,14 @@ use Rattle.rt0.specs.Book.{Book, book_of}
 use Rattle.rt0.specs.Holding.{Holding}
 use Rattle.records.specs.Bytes.{credential_in}
 use Rattle.bundle.specs.declared.access.Mark.{Mark}
-use Rattle.bundle.specs.declared.access.Mark.TheVariants.{Present, Absent, Unmarked}
+use Rattle.bundle.specs.declared.access.Mark.TheVariants.{Present, Absent}
 use Rattle.bundle.specs.Layout.{entities_of, names_of, records_of, record_bytes}
 use Rattle.bundle.specs.Access.{mark_of}
 
-abbrev pub shelf_of : Mark → Shelf
-shelf_of Present = PresentShelf
-shelf_of Absent = AbsentShelf
-shelf_of Unmarked = PresentShelf
+abbrev pub shelf_of : Option Mark → Shelf
+shelf_of (Some Present) = PresentShelf
+shelf_of (Some Absent) = AbsentShelf
+shelf_of None = PresentShelf
 
 -- the shelves of a bundle
 abbrev pub shelves : List ℕ → ℕ → Shelf

@@ -1,12 +1,13 @@
 -- The reader's answer as tests that compute, in the order of the rows: each stage of the reader has the tests from its own on.
-use Rattle.std.specs.Prelude.{ℕ, ◌-◌, not, List, [], ◌∷◌, length, eqb}
+use Rattle.std.specs.Prelude.{ℕ, ◌-◌, not, List, [], ◌∷◌, length, eqb, Result, Ok, Err}
+use Rattle.base.specs.declared.refusal.Refusal.{Refusal as Refused}
+use Rattle.base.specs.Refused.{refusal_at}
 use Rattle.base.specs.Refusals.{Refusal, given, clear, Test, test, zero_if, lowest_from_one, first}
 use Rattle.base.specs.Lowest.{lowest}
 use Rattle.block.specs.Block.{block}
 use Rattle.records.specs.Mistake.{mistake_kind, kind_number}
 use Rattle.bundle.specs.Each.{each_place}
-use Rattle.bundle.specs.declared.read.Reading.{Reading}
-use Rattle.bundle.specs.declared.read.Reading.TheVariants.{Accepted, Refused}
+use Rattle.bundle.specs.declared.read.Sizes.{Sizes}
 use Rattle.bundle.specs.Layout.{length_wrong, blocks, entities_of, names_of, records_of, record_bytes, sizes_in, first_wrong, blocks_for, bad_check, bad_beside, bad_record}
 
 -- the paper's number of what is wrong with record i, 0 for nothing
@@ -39,14 +40,14 @@ unfoldable pub reader_tests : List ℕ → List Test
 reader_tests bytes = test 1 (zero_if (length_wrong (length bytes))) ∷ check_tests bytes
 
 -- the answer for a refusal, or for none
-abbrev pub reading_for : List ℕ → Refusal → Reading
-reading_for bytes (given number place) = Refused number place
-reading_for bytes clear = Accepted (sizes_in bytes)
+abbrev pub reading_for : List ℕ → Refusal → Result Sizes (Refused ℕ)
+reading_for bytes (given number place) = Err (refusal_at number place)
+reading_for bytes clear = Ok (sizes_in bytes)
 
 -- the answer by some tests
-unfoldable pub read_by : List ℕ → List Test → Reading
+unfoldable pub read_by : List ℕ → List Test → Result Sizes (Refused ℕ)
 read_by bytes tests = reading_for bytes (first tests)
 
 -- the answer to every list of bytes
-abbrev pub read_of : List ℕ → Reading
+abbrev pub read_of : List ℕ → Result Sizes (Refused ℕ)
 read_of bytes = read_by bytes (reader_tests bytes)

@@ -1,12 +1,12 @@
 -- The reader's table of refusals, in the paper's order: when each row applies to a list of bytes, and at which place. And what an answer of
 -- the reader comes to by it, in the paper's number and place.
-use Rattle.std.specs.Prelude.{ℕ, ◌-◌, ◌%◌, ◌<◌, ◌≡◌, true, ◌⊎◌, List, [], ◌∷◌, length}
+use Rattle.std.specs.Prelude.{ℕ, ◌-◌, ◌%◌, ◌<◌, ◌≡◌, true, ◌⊎◌, List, [], ◌∷◌, length, Result, Ok, Err}
+use Rattle.base.specs.declared.refusal.Refusal.{Refusal}
+use Rattle.base.specs.Refused.{number_of, place_of}
 use Rattle.base.specs.Lowest.{LowestBelow}
 use Rattle.base.specs.Refusals.{Row, row, AtZero, FromOne, Due, Clear, Judged}
 use Rattle.block.specs.Block.{block}
 use Rattle.bundle.specs.declared.read.Sizes.{Sizes}
-use Rattle.bundle.specs.declared.read.Reading.{Reading}
-use Rattle.bundle.specs.declared.read.Reading.TheVariants.{Accepted, Refused}
 use Rattle.records.specs.Mistake.{mistake_rows}
 use Rattle.bundle.specs.Each.{EachBelow}
 use Rattle.bundle.specs.Layout.{longest_bundle, blocks, entities_of, names_of, records_of, record_bytes, sizes_in, first_wrong, blocks_for, bad_check, bad_beside, bad_record}
@@ -43,24 +43,16 @@ reader_rows bytes =
     ∷ row 5 (FromOne (LowestBelow (bad_beside bytes) (blocks bytes - 1)))
     ∷ record_rows bytes
 
--- the paper's number and place of an answer, and the sizes that it says
-abbrev pub number_of : Reading → ℕ
-number_of (Accepted s) = 0
-number_of (Refused number place) = number
-
-abbrev pub place_of : Reading → ℕ
-place_of (Accepted s) = 0
-place_of (Refused number place) = place
-
 abbrev pub no_sizes : Sizes
 no_sizes = record { entities = 0; names = 0; records = 0 }
 
-abbrev pub sizes_of : Reading → Sizes
-sizes_of (Accepted s) = s
-sizes_of (Refused number place) = no_sizes
+-- the sizes that an answer says
+abbrev pub sizes_of : Result Sizes (Refusal ℕ) → Sizes
+sizes_of (Ok s) = s
+sizes_of (Err why) = no_sizes
 
 -- this is the reader's answer to the bytes: the refusal that is due, or, where no row applies, what block 0 says
-abbrev pub Reads : List ℕ → Reading → Type 0
+abbrev pub Reads : List ℕ → Result Sizes (Refusal ℕ) → Type 0
 Reads bytes r = Judged (reader_rows bytes) (number_of r) (place_of r) (sizes_of r ≡ no_sizes) (sizes_of r ≡ sizes_in bytes)
 
 -- the bytes are a bundle of these sizes: no row applies, and block 0 says so

@@ -12,25 +12,24 @@ use records::form::{Record, record_of};
 pub enum Mark {
     Present,
     Absent,
-    Unmarked,
 }
 
-// The mark of a shelf, counted from 1.
-pub fn mark_at(bundle: &[u8], shelf: usize) -> Mark
+// The mark of a shelf, counted from 1, where it has one.
+pub fn mark_at(bundle: &[u8], shelf: usize) -> Option<Mark>
     ensures { result ≡ mark_of bundle.now shelf }
 {
     if outside(32, shelf) {
-        return Mark::Unmarked;
+        return None;
     }
     match byte(bundle, 3 + shelf) {
-        1 => Mark::Present,
-        2 => Mark::Absent,
-        _ => Mark::Unmarked,
+        1 => Some(Mark::Present),
+        2 => Some(Mark::Absent),
+        _ => None,
     }
 }
 
 // The record whose twelve bytes start at a byte of a block.
-fn record_in(bytes: &[u8], start: usize) -> Record
+fn record_in(bytes: &[u8], start: usize) -> Option<Record>
     requires { start + 12 ≤ length bytes.now }
     ensures { result ≡ record_in (take 12 (drop start bytes.now)) }
 {
@@ -38,19 +37,19 @@ fn record_in(bytes: &[u8], start: usize) -> Record
     record_of(&bytes[start..end])
 }
 
-// Record number n of a bundle, counted from 1.
-pub fn record_at(bundle: &[u8], n: usize) -> Record
+// Record number n of a bundle, counted from 1, where it has one.
+pub fn record_at(bundle: &[u8], n: usize) -> Option<Record>
     ensures { result ≡ record_of bundle.now n }
 {
     if outside(240, n) {
-        return Record::Nothing;
+        return None;
     }
     let place = RecordPlace::after(n - 1);
     let k = place.block;
     let start = Block::SIZE * k;
     let end = start + Block::SIZE;
     if bundle.len() < end {
-        return Record::Nothing;
+        return None;
     }
     record_in(&bundle[start..end], place.start)
 }

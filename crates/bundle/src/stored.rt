@@ -20,7 +20,7 @@ fn wrong_in(bytes: &[u8], start: usize, sizes: Sizes) -> bool
 }
 
 // What is wrong with the record whose twelve bytes start at a byte of a block.
-fn mistake_in(bytes: &[u8], start: usize, sizes: Sizes) -> Mistake
+fn mistake_in(bytes: &[u8], start: usize, sizes: Sizes) -> Option<Mistake>
     requires { start + 12 ≤ length bytes.now }
     ensures { Mistaken sizes.entities sizes.names (take 12 (drop start bytes.now)) result }
 {

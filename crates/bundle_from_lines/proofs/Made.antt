@@ -1,5 +1,6 @@
 -- How the bundle of a text comes about: E, R and the marks are judged by the writer from a list without a record, then the text is read, and
 -- its records are written. What each step answers is what the program's table says.
+use Rattle.std.specs.Prelude.{Result, Ok, Err}
 use Prim.Native.Nat.{ℕ, ◌*◌, ◌≤◌}
 use native.Mathlib.Omega.{arith}
 use mathlib.Core.Path.{◌≡◌, refl, ap, sym, subst, ◌∙◌}
@@ -8,14 +9,14 @@ use mathlib.Core.List.{List, [], ◌++◌}
 use lib.ListN.{length, take, drop, length-append}
 use lib.Seq.{take_at}
 use Rattle.rt0.specs.Credential.{Credential}
+use Rattle.base.specs.declared.refusal.Refusal.{Refusal}
+use Rattle.base.specs.Refused.{refusal_at}
 use Rattle.base.specs.Refusals.{Clear, refused, passed}
 use Rattle.base.proofs.Refusals.{due_number, due_clear, clear_both}
 use Rattle.content.specs.Content.{Content, count, whole_records, content_from}
 use Rattle.content.specs.Encode.{encode}
 use Rattle.content.proofs.Written.{length_written, front_written}
 use Rattle.content.proofs.Listed.{count_given}
-use Rattle.writer.specs.declared.answer.Wrote.{Wrote}
-use Rattle.writer.specs.declared.answer.Wrote.TheVariants.{Length, Refused}
 use Rattle.writer.specs.Rows.{HeadWrong, list_rows, room_rows, write_rows}
 use Rattle.writer.specs.Promise.{Writes}
 use Rattle.writer.proofs.Tables.{list_clear, write_numbers}
@@ -37,21 +38,21 @@ module _ (E R : ℕ) (marks before after : List ℕ) (room : 512 ≤ length befo
       clear_both (list_rows E R []) (room_rows 0 (length before)) (list_clear E R [] (λ i l. absurd (omega arith)))
       (λ (_, (_, many)). omega arith, (λ (_, (_, short)). omega arith, tt))
 
-  pub head_refused : (w : Wrote) (number place : ℕ) → w ≡ Refused number place → Writes E R marks [] before w after → (text bundle : List ℕ)
+  pub head_refused : (w : Result ℕ (Refusal ℕ)) (number place : ℕ) → w ≡ Err (refusal_at number place) → Writes E R marks [] before w after → (text bundle : List ℕ)
       → Gives (head_rows E R marks text) (BundleOf E R marks text) bundle w
   head_refused w number place e h text bundle =
-      subst (Gives (head_rows E R marks text) (BundleOf E R marks text) bundle) (sym e) (by (subst (λ (x : Wrote). Writes E R marks [] before x after) e h))
+      subst (Gives (head_rows E R marks text) (BundleOf E R marks text) bundle) (sym e) (by (subst (λ (x : Result ℕ (Refusal ℕ)). Writes E R marks [] before x after) e h))
     where
-      by : Writes E R marks [] before (Refused number place) after → Gives (head_rows E R marks text) (BundleOf E R marks text) bundle (Refused number place)
+      by : Writes E R marks [] before (Err (refusal_at number place)) after → Gives (head_rows E R marks text) (BundleOf E R marks text) bundle (Err (refusal_at number place))
       by (refused (inl (_, (_, cut))) _) = absurd (cut refl)
       by (refused (inr (_, inl (three, (zero, wrong)))) _) = refused (inl (three, (zero, wrong))) (omega arith)
       by (refused (inr (_, inr (_, d))) _) = absurd (due_clear (list_rows E R [] ++ room_rows 0 (length before)) _ _ no_record d)
       by (passed _ _ _ (size, _)) = absurd (omega arith)
 
-  pub head_right : (w : Wrote) (n : ℕ) → w ≡ Length n → Writes E R marks [] before w after → HeadWrong E R marks → ⊥
-  head_right w n e h wrong = by (subst (λ (x : Wrote). Writes E R marks [] before x after) e h)
+  pub head_right : (w : Result ℕ (Refusal ℕ)) (n : ℕ) → w ≡ Ok n → Writes E R marks [] before w after → HeadWrong E R marks → ⊥
+  head_right w n e h wrong = by (subst (λ (x : Result ℕ (Refusal ℕ)). Writes E R marks [] before x after) e h)
     where
-      by : Writes E R marks [] before (Length n) after → ⊥
+      by : Writes E R marks [] before (Ok n) after → ⊥
       by (refused d _) = omega (arith, due_number (write_rows E R marks [] (length before)) (write_numbers E R marks [] (length before)) 0 0 d)
       by (passed _ _ (_, (right, _)) _) = right (0, (refl, wrong))
 
@@ -66,13 +67,13 @@ few_lines E R marks text right (lines, (many, _)) =
     (clear_read E R text (12 * line_count text)
     (λ (_, (_, out)). no_range E R marks right out, (lines, (many, (λ (_, (_, short)). omega arith, tt))))).few
 
-pub head_passed : (E R : ℕ) (marks text bundle : List ℕ) (w : Wrote) → (HeadWrong E R marks → ⊥) → Gives (text_rows E R text) (BundleOf E R marks text) bundle w
+pub head_passed : (E R : ℕ) (marks text bundle : List ℕ) (w : Result ℕ (Refusal ℕ)) → (HeadWrong E R marks → ⊥) → Gives (text_rows E R text) (BundleOf E R marks text) bundle w
     → Gives (head_rows E R marks text) (BundleOf E R marks text) bundle w
 head_passed E R marks text bundle w right (refused d low) = refused (inr (λ (_, (_, wrong)). right wrong, d)) low
 head_passed E R marks text bundle w right (passed z p clear front) = passed z p (λ (_, (_, wrong)). right wrong, clear) front
 
 -- what stands at the front of a buffer
-front_is : (bytes before after : List ℕ) (n : ℕ) → Stored bytes before (Length n) after → take n after ≡ bytes
+front_is : (bytes before after : List ℕ) (n : ℕ) → Stored bytes before (Ok n) after → take n after ≡ bytes
 front_is bytes before after n (e, f) =
     let size : n ≡ length bytes = cc e in
     rw (f, size) (take_at bytes (drop (length bytes) before) (length bytes) refl)
@@ -100,10 +101,10 @@ module _ (E R : ℕ) (marks text : List ℕ) (right : HeadWrong E R marks → �
     ),
   )
 
-  records_made : (answer : Wrote) → Writes E R marks (records_of cs) bundle answer made → Gives (text_rows E R text) (BundleOf E R marks text) made answer
+  records_made : (answer : Result ℕ (Refusal ℕ)) → Writes E R marks (records_of cs) bundle answer made → Gives (text_rows E R text) (BundleOf E R marks text) made answer
   records_made answer (refused d _) = absurd (due_clear (write_rows E R marks (records_of cs) (length bundle)) _ _ right_list d)
-  records_made (Refused number place) (passed _ _ _ (size, _)) = absurd (omega arith)
-  records_made (Length n) (passed _ _ _ (size, stored)) =
+  records_made (Err why) (passed _ _ _ (size, _)) = absurd (omega arith)
+  records_made (Ok n) (passed _ _ _ (size, stored)) =
       passed refl refl clear
       record {
         size = n;
@@ -118,35 +119,35 @@ module _ (E R : ℕ) (marks text : List ℕ) (right : HeadWrong E R marks → �
 
 module _ (E R : ℕ) (marks text : List ℕ) (right : HeadWrong E R marks → ⊥) (before after : List ℕ) (room : 2880 ≤ length before) where
   -- the text is refused
-  pub text_refused : (w : Wrote) (number place : ℕ) → w ≡ Refused number place → Reads E R text before w after → (bundle : List ℕ)
+  pub text_refused : (w : Result ℕ (Refusal ℕ)) (number place : ℕ) → w ≡ Err (refusal_at number place) → Reads E R text before w after → (bundle : List ℕ)
       → Gives (text_rows E R text) (BundleOf E R marks text) bundle w
   text_refused w number place e h bundle =
-      subst (Gives (text_rows E R text) (BundleOf E R marks text) bundle) (sym e) (by (subst (λ (x : Wrote). Reads E R text before x after) e h))
+      subst (Gives (text_rows E R text) (BundleOf E R marks text) bundle) (sym e) (by (subst (λ (x : Result ℕ (Refusal ℕ)). Reads E R text before x after) e h))
     where
-      by : Reads E R text before (Refused number place) after → Gives (text_rows E R text) (BundleOf E R marks text) bundle (Refused number place)
+      by : Reads E R text before (Err (refusal_at number place)) after → Gives (text_rows E R text) (BundleOf E R marks text) bundle (Err (refusal_at number place))
       by (refused (inl (_, (_, out))) _) = absurd (no_range E R marks right out)
       by (refused (inr (_, inl (n, (k, at, first)))) _) = refused (inl (n, (k, at, first))) (omega (arith, first.among))
       by (refused (inr (_, inr (lines, inl (n, (at, many))))) _) = refused (inr (lines, inl (n, (at, many)))) (omega arith)
       by (refused (inr (_, inr (lines, inr (many, inl (_, (_, short)))))) _) = absurd (omega (arith, few_lines E R marks text right (lines, (many, tt))))
       by (refused (inr (_, inr (_, inr (_, inr (_, none))))) _) = absurd none
-      by (passed _ _ _ (_, (f, _))) = no_both (Refused number place) _ number place f refl
+      by (passed _ _ _ (_, (f, _))) = no_both (Err (refusal_at number place)) _ number place f refl
 
   -- it is read: so many bytes of records are there
-  pub text_inside : (w : Wrote) (n : ℕ) → w ≡ Length n → Reads E R text before w after → n ≤ length after
-  text_inside w n e h = by (subst (λ (x : Wrote). Reads E R text before x after) e h)
+  pub text_inside : (w : Result ℕ (Refusal ℕ)) (n : ℕ) → w ≡ Ok n → Reads E R text before w after → n ≤ length after
+  text_inside w n e h = by (subst (λ (x : Result ℕ (Refusal ℕ)). Reads E R text before x after) e h)
     where
-      by : Reads E R text before (Length n) after → n ≤ length after
+      by : Reads E R text before (Ok n) after → n ≤ length after
       by (refused d _) = absurd (omega (arith, due_number (read_rows E R text (length before)) (read_numbers E R text (length before)) 0 0 d))
       by (passed _ _ _ (letter, (f, stored))) =
           let size : n ≡ length (records_of letter.credentials) = cc f in
           rw (stored, length-append) (omega arith)
 
   -- and they are written
-  pub text_made : (w : Wrote) (n : ℕ) → w ≡ Length n → Reads E R text before w after → (bundle made : List ℕ) (answer : Wrote) → 3584 ≤ length bundle
+  pub text_made : (w : Result ℕ (Refusal ℕ)) (n : ℕ) → w ≡ Ok n → Reads E R text before w after → (bundle made : List ℕ) (answer : Result ℕ (Refusal ℕ)) → 3584 ≤ length bundle
       → Writes E R marks (take n after) bundle answer made → Gives (text_rows E R text) (BundleOf E R marks text) made answer
-  text_made w n e h bundle made answer long wrote = by (subst (λ (x : Wrote). Reads E R text before x after) e h)
+  text_made w n e h bundle made answer long wrote = by (subst (λ (x : Result ℕ (Refusal ℕ)). Reads E R text before x after) e h)
     where
-      by : Reads E R text before (Length n) after → Gives (text_rows E R text) (BundleOf E R marks text) made answer
+      by : Reads E R text before (Ok n) after → Gives (text_rows E R text) (BundleOf E R marks text) made answer
       by (refused d _) = absurd (omega (arith, due_number (read_rows E R text (length before)) (read_numbers E R text (length before)) 0 0 d))
       by (passed _ _ (_, (wrong, (many, _))) (letter, stored)) =
           let list = front_is (records_of letter.credentials) before after n stored in

@@ -1,5 +1,6 @@
 -- The output of an input: it is that of what the program answers; an input that is longer than any that is not refused has the output of every
 -- input that begins with it; and no input has two.
+use Rattle.std.specs.Prelude.{Result, Err}
 use Prim.Native.Nat.{ℕ, ◌-◌, ◌<◌}
 use native.Mathlib.Omega.{arith}
 use mathlib.Core.Path.{◌≡◌, refl, ap, sym, subst, subst₂, ◌∙◌}
@@ -10,13 +11,13 @@ use lib.Seq.{take_all, take-append-le, drop-append-le}
 use borrow.Author.Tests.{ne_eqb}
 use Rattle.std.specs.Prelude.{Result, Ok}
 use Rattle.rt0.specs.Credential.{Credential}
+use Rattle.base.specs.declared.refusal.Refusal.{Refusal}
+use Rattle.base.specs.Refused.{refusal_at}
 use Rattle.base.specs.Refusals.{Clear, AllOnePlace, AllNumbered, refused}
 use Rattle.base.proofs.Flags.{not_true_false}
 use Rattle.base.proofs.Refusals.{zero_place}
 use Rattle.content.specs.Content.{marks_wrong}
 use Rattle.content.specs.Encode.{encode}
-use Rattle.writer.specs.declared.answer.Wrote.{Wrote}
-use Rattle.writer.specs.declared.answer.Wrote.TheVariants.{Refused}
 use Rattle.writer.specs.Rows.{HeadWrong}
 use Rattle.letters.specs.Lines.{line_count}
 use Rattle.letters.proofs.Texts.{text_count, text_one}
@@ -97,11 +98,11 @@ prints_once input = once (entities_given input) (names_given input) (marks_given
 -- What the program's functions answer.
 
 module _ (input after : List ℕ) where
-  pub short_refused : length input < head_bytes → Gives (bundle_rows input) (BundleFrom input) after (Refused 3 0)
+  pub short_refused : length input < head_bytes → Gives (bundle_rows input) (BundleFrom input) after (Err (refusal_at 3 0))
   short_refused short = refused (inl (refl, (refl, head_short input short))) (omega arith)
 
   -- from the parts of an input that has a head
-  pub from_parts : (E R : ℕ) (w : Wrote) → E ≡ entities_given input → R ≡ names_given input
+  pub from_parts : (E R : ℕ) (w : Result ℕ (Refusal ℕ)) → E ≡ entities_given input → R ≡ names_given input
       → Gives (head_rows E R (marks_given input) (take (length input - 34) (drop 34 input))) (BundleOf E R (marks_given input) (take (length input - 34) (drop 34 input))) after w
       → Gives (bundle_rows input) (BundleFrom input) after w
   from_parts E R w e r h =

@@ -17,12 +17,12 @@ ghost use Rattle.bundle_from_lines.specs.Prints.{text_rows, head_rows, bundle_ro
 
 use answers::line::{Text, message};
 use base::byte;
+use base::refusal::{Cause, Refusal};
 use desk::listing_of;
 use input::fill;
 use letters::read::read_lines;
 use listed::{ListProgram, Listing, say, write};
 use std::io::{Read, Write};
-use writer::answer::Wrote;
 
 // The bytes before the text.
 #[derive(Drop)]
@@ -59,7 +59,7 @@ fn write_front(
     records: &[u8],
     n: usize,
     bundle: &mut [u8],
-) -> Wrote
+) -> Result<usize, Refusal<usize>>
     requires { n ≤ length records.now }
     ensures { Writes entities names marks.now (take n records.now) bundle.old result bundle.new }
 {
@@ -74,15 +74,12 @@ fn from_text(
     text: &[u8],
     records: &mut [u8],
     bundle: &mut [u8],
-) -> Wrote
+) -> Result<usize, Refusal<usize>>
     requires { (HeadWrong entities names marks.now → ⊥) × (2880 ≤ length records.old) × (3584 ≤ length bundle.old) }
     ensures { Gives (text_rows entities names text.now) (BundleOf entities names marks.now text.now)
         bundle.new result }
 {
-    let read = read_lines(entities, names, text, records);
-    let Wrote::Length(n) = read else {
-        return read;
-    };
+    let n = read_lines(entities, names, text, records)?;
     write_front(entities, names, marks, records, n, bundle)
 }
 
@@ -94,28 +91,22 @@ fn from_head(
     text: &[u8],
     records: &mut [u8],
     bundle: &mut [u8],
-) -> Wrote
+) -> Result<usize, Refusal<usize>>
     requires { (2880 ≤ length records.old) × (3584 ≤ length bundle.old) }
     ensures { Gives (head_rows entities names marks.now text.now)
         (BundleOf entities names marks.now text.now) bundle.new result }
 {
-    let head = writer::write::write(entities, names, marks, b"", bundle);
-    let Wrote::Length(_) = head else {
-        return head;
-    };
+    writer::write::write(entities, names, marks, b"", bundle)?;
     from_text(entities, names, marks, text, records, bundle)
 }
 
 // The bundle from the bytes of standard input.
-fn from_input(input: &[u8], records: &mut [u8], bundle: &mut [u8]) -> Wrote
+fn from_input(input: &[u8], records: &mut [u8], bundle: &mut [u8]) -> Result<usize, Refusal<usize>>
     requires { (2880 ≤ length records.old) × (3584 ≤ length bundle.old) }
     ensures { Gives (bundle_rows input.now) (BundleFrom input.now) bundle.new result }
 {
     if input.len() < Head::BYTES {
-        return Wrote::Refused {
-            number: 3,
-            place: 0,
-        };
+        return Err(Cause::Layout.at(0));
     }
     let entities = byte(input, 0) as u8;
     let names = byte(input, 1) as u8;

@@ -1,8 +1,10 @@
 -- What is packed comes back, so the promises of the search and of the tables, with or without a sheet, and of the checker hold of what a result
 -- unpacks to; and two results that keep them agree as two answers of the search, of the tables or of the checker do.
+use Rattle.std.specs.Prelude.{Result}
 use Prim.Native.Nat.{ℕ}
 use mathlib.Core.Path.{◌≡◌, sym, ap, subst, ◌∙◌}
 use mathlib.Core.List.{List}
+use Rattle.base.specs.declared.refusal.Refusal.{Refusal}
 use Rattle.answers.specs.Answer.{Outcome}
 use Rattle.answers.specs.Pack.{packed, unpacked, Packs}
 use Rattle.answers.proofs.Packing.{packs_unpacked}
@@ -16,7 +18,6 @@ use Rattle.tables.specs.Promise.{Tables, TablesPromise}
 use Rattle.tables.proofs.Determined.{tables_determined}
 use Rattle.with_sheet.specs.Promise.{SheetTables, SheetSearch}
 use Rattle.with_sheet.proofs.Determined.{sheet_tables_determined, sheet_search_determines}
-use Rattle.checker.specs.declared.check.Checked.{Checked}
 use Rattle.checker.specs.Rows.{Checks}
 use Rattle.checker.proofs.Refusals.{answers_equal}
 use Rattle.capi.specs.Packed.{PackedPromise, filled_outcome, PackedTables, checked_outcome, PackedCheck}
@@ -44,12 +45,12 @@ module _ (bytes : List ℕ) (q : Question) (before after_one after_two : Lent) (
 
 -- ---- the tables
 
-module _ (Promised : Filled → Type 0) where
-  pub packed_tables : (answer : Filled) (result : ℕ) → Packs (filled_outcome answer) result → Promised answer → PackedTables Promised result
+module _ (Promised : Result Filled (Refusal ℕ) → Type 0) where
+  pub packed_tables : (answer : Result Filled (Refusal ℕ)) (result : ℕ) → Packs (filled_outcome answer) result → Promised answer → PackedTables Promised result
   packed_tables answer result p promise = record { answer = answer; promise = promise; packing = p.packing }
 
-packed_same : (one two : ℕ) (o p : Filled) → one ≡ packed (filled_outcome o) → two ≡ packed (filled_outcome p) → o ≡ p → one ≡ two
-packed_same one two o p e f same = e ∙ ap (λ (x : Filled). packed (filled_outcome x)) same ∙ sym f
+packed_same : (one two : ℕ) (o p : Result Filled (Refusal ℕ)) → one ≡ packed (filled_outcome o) → two ≡ packed (filled_outcome p) → o ≡ p → one ≡ two
+packed_same one two o p e f same = e ∙ ap (λ (x : Result Filled (Refusal ℕ)). packed (filled_outcome x)) same ∙ sym f
 
 -- two results of the tables are the same number, and leave the same words
 module _ (bundle : List ℕ) (before after_one after_two : Tables) (one two : ℕ) where
@@ -68,7 +69,7 @@ module _ (bundle : List ℕ) (before after_one after_two : Tables) (one two : �
 
 -- ---- the check
 
-pub packed_check : (bundle : List ℕ) (q : Question) (slip : List ℕ) (found answer : Checked) (result : ℕ) → found ≡ answer
+pub packed_check : (bundle : List ℕ) (q : Question) (slip : List ℕ) (found answer : Result ℕ (Refusal ℕ)) (result : ℕ) → found ≡ answer
     → Checks bundle q slip found → Packs (checked_outcome answer) result → PackedCheck bundle q slip result
 packed_check bundle q slip found answer result e checks p = record { answer = answer; checks = rw e at checks; packing = p.packing }
 
@@ -76,5 +77,5 @@ packed_check bundle q slip found answer result e checks p = record { answer = an
 pub results_equal : (bundle : List ℕ) (q : Question) (slip : List ℕ) (one two : ℕ) → PackedCheck bundle q slip one → PackedCheck bundle q slip two
     → one ≡ two
 results_equal bundle q slip one two p r =
-    p.packing ∙ ap (λ (c : Checked). packed (checked_outcome c)) (answers_equal bundle q slip p.answer r.answer p.checks r.checks)
+    p.packing ∙ ap (λ (c : Result ℕ (Refusal ℕ)). packed (checked_outcome c)) (answers_equal bundle q slip p.answer r.answer p.checks r.checks)
     ∙ sym r.packing

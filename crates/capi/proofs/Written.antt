@@ -1,16 +1,16 @@
 -- What is packed of the writer's answer comes back: the number, and below it the place or the length modulo 2 ^ 56. A length fits these bits
 -- always, so does the place of an append, and that of a write where the list of records has fewer than 2 ^ 56 bytes: the answer that the result
 -- unpacks to then keeps the writer's promise. And two results that keep it are the same number, with the same buffer.
+use Rattle.std.specs.Prelude.{Result, Ok, Err}
 use Prim.Native.Nat.{ℕ, ◌-◌, ◌%◌, ◌^◌, ◌≤◌, ◌<◌}
 use native.Mathlib.Omega.{arith}
 use mathlib.Core.Path.{◌≡◌, refl, sym, ap, subst, ◌∙◌}
 use mathlib.Core.List.{List}
 use lib.ListN.{length}
 use borrow.Author.Tests.{ne_eqb}
+use Rattle.base.specs.declared.refusal.Refusal.{Refusal}
+use Rattle.base.specs.Refused.{refusal_at, number_of}
 use Rattle.answers.specs.Pack.{number_in}
-use Rattle.writer.specs.declared.answer.Wrote.{Wrote}
-use Rattle.writer.specs.declared.answer.Wrote.TheVariants.{Length, Refused}
-use Rattle.writer.specs.Rows.{number_of}
 use Rattle.writer.specs.Promise.{Writes, Appends}
 use Rattle.writer.proofs.Places.{write_number, write_place, append_number, append_place}
 use Rattle.writer.proofs.Determined.{writes_equal, appends_equal}
@@ -22,18 +22,18 @@ use Rattle.capi.specs.Written.{below_of, packed_numbers, packed_wrote, below_in,
 
 -- From the numbers that were packed to the answer.
 
-pub packs_length : (answer : Wrote) (length result : ℕ) → answer ≡ Length length → (result ≡ packed_numbers 0 length) × (0 < 2 ^ 8) → PacksWrote answer result
+pub packs_length : (answer : Result ℕ (Refusal ℕ)) (length result : ℕ) → answer ≡ Ok length → (result ≡ packed_numbers 0 length) × (0 < 2 ^ 8) → PacksWrote answer result
 packs_length answer length result e (packing, fits) =
-    subst (λ (w : Wrote). PacksWrote w result) (sym e) (record { packing = packing; fits = fits })
+    subst (λ (w : Result ℕ (Refusal ℕ)). PacksWrote w result) (sym e) (record { packing = packing; fits = fits })
 
-pub packs_refused : (answer : Wrote) (number place result : ℕ) → answer ≡ Refused number place
+pub packs_refused : (answer : Result ℕ (Refusal ℕ)) (number place result : ℕ) → answer ≡ Err (refusal_at number place)
     → (result ≡ packed_numbers number place) × (number < 2 ^ 8) → PacksWrote answer result
 packs_refused answer number place result e (packing, fits) =
-    subst (λ (w : Wrote). PacksWrote w result) (sym e) (record { packing = packing; fits = fits })
+    subst (λ (w : Result ℕ (Refusal ℕ)). PacksWrote w result) (sym e) (record { packing = packing; fits = fits })
 
 -- Both parts come back.
 
-module _ (answer : Wrote) (result : ℕ) (p : PacksWrote answer result) where
+module _ (answer : Result ℕ (Refusal ℕ)) (result : ℕ) (p : PacksWrote answer result) where
   pub number_back : number_in result ≡ number_of answer
   number_back = omega (arith, p.packing, p.fits)
 
@@ -41,34 +41,34 @@ module _ (answer : Wrote) (result : ℕ) (p : PacksWrote answer result) where
   below_back = omega (arith, p.packing, p.fits)
 
 -- so the answer does where what stands below fits its bits, as a refusal has a number
-length_back : (n result : ℕ) → n < 2 ^ 56 → PacksWrote (Length n) result → unpacked_wrote result ≡ Length n
+length_back : (n result : ℕ) → n < 2 ^ 56 → PacksWrote (Ok n) result → unpacked_wrote result ≡ Ok n
 length_back n result small p =
-    let number : number_in result ≡ 0 = number_back (Length n) result p in
-    let below : below_in result ≡ n = omega (arith, below_back (Length n) result p) in
+    let number : number_in result ≡ 0 = number_back (Ok n) result p in
+    let below : below_in result ≡ n = omega (arith, below_back (Ok n) result p) in
     rw (number, below) refl
 
-refusal_back : (n place result : ℕ) → 1 ≤ n → place < 2 ^ 56 → PacksWrote (Refused n place) result → unpacked_wrote result ≡ Refused n place
+refusal_back : (n place result : ℕ) → 1 ≤ n → place < 2 ^ 56 → PacksWrote (Err (refusal_at n place)) result → unpacked_wrote result ≡ Err (refusal_at n place)
 refusal_back n place result some small p =
-    let number : number_in result ≡ n = number_back (Refused n place) result p in
-    let below : below_in result ≡ place = omega (arith, below_back (Refused n place) result p) in
+    let number : number_in result ≡ n = number_back (Err (refusal_at n place)) result p in
+    let below : below_in result ≡ place = omega (arith, below_back (Err (refusal_at n place)) result p) in
     rw (number, below, ne_eqb n 0 (λ z. omega arith)) refl
 
 -- a promise of the answer is then one of what the result unpacks to
-module _ (Promised : Wrote → Type 0) (lengths : (m : ℕ) → Promised (Length m) → m < 2 ^ 56)
-    (refusals : (number place : ℕ) → Promised (Refused number place) → (1 ≤ number) × (place < 2 ^ 56)) where
-  unpacked_keeps : (answer : Wrote) (result : ℕ) → Promised answer → PacksWrote answer result → Promised (unpacked_wrote result)
-  unpacked_keeps (Length m) result h p = subst Promised (sym (length_back m result (lengths m h) p)) h
-  unpacked_keeps (Refused number place) result h p =
-      let (some, small) = refusals number place h in
-      subst Promised (sym (refusal_back number place result some small p)) h
+module _ (Promised : Result ℕ (Refusal ℕ) → Type 0) (lengths : (m : ℕ) → Promised (Ok m) → m < 2 ^ 56)
+    (refusals : (number place : ℕ) → Promised (Err (refusal_at number place)) → (1 ≤ number) × (place < 2 ^ 56)) where
+  unpacked_keeps : (answer : Result ℕ (Refusal ℕ)) (result : ℕ) → Promised answer → PacksWrote answer result → Promised (unpacked_wrote result)
+  unpacked_keeps (Ok m) result h p = subst Promised (sym (length_back m result (lengths m h) p)) h
+  unpacked_keeps (Err why) result h p =
+      let (some, small) = refusals why.number why.place h in
+      subst Promised (sym (refusal_back why.number why.place result some small p)) h
 
 -- an answer that keeps a promise, packed
-pub packed_answer : (Promised : Wrote → Type 0) (answer : Wrote) (result : ℕ) → PacksWrote answer result → Promised answer → PackedAnswer Promised result
+pub packed_answer : (Promised : Result ℕ (Refusal ℕ) → Type 0) (answer : Result ℕ (Refusal ℕ)) (result : ℕ) → PacksWrote answer result → Promised answer → PackedAnswer Promised result
 packed_answer Promised answer result p h = record { answer = answer; keeps = h; packs = p }
 
 -- two results are the same number where two answers that keep their promises are equal
-pub packed_same : (One Two : Wrote → Type 0) (one two : ℕ) (p : PackedAnswer One one) (q : PackedAnswer Two two) → p.answer ≡ q.answer → one ≡ two
-packed_same One Two one two p q same = p.packs.packing ∙ ap (λ (w : Wrote). packed_wrote w) same ∙ sym q.packs.packing
+pub packed_same : (One Two : Result ℕ (Refusal ℕ) → Type 0) (one two : ℕ) (p : PackedAnswer One one) (q : PackedAnswer Two two) → p.answer ≡ q.answer → one ≡ two
+packed_same One Two one two p q same = p.packs.packing ∙ ap (λ (w : Result ℕ (Refusal ℕ)). packed_wrote w) same ∙ sym q.packs.packing
 
 -- A write.
 

@@ -14,7 +14,7 @@ ghost use Rattle.capi.specs.Holders.{PackedHolders};
 use crate::pack::{pack_filled, pack_storage, pack_wrote};
 use answers::pack::{pack, pack_answer};
 use bundle::question::Question;
-use checker::check::{Checked, check};
+use checker::check::check;
 use letters::read::read_lines;
 use letters::write::write_lines;
 use search::search;
@@ -96,10 +96,9 @@ pub extern "C" fn portertrunk_tables_with_sheet(
 pub extern "C" fn portertrunk_check(bundle: &[u8], d: u8, a: u8, r: u8, slip: &[u8]) -> u64
     ensures { PackedCheck bundle.now (question d a r) slip.now result }
 {
-    let checked = check(bundle, d, a, r, slip);
-    match checked {
-        Checked::Accepted { lines } => pack(0, 0, 0, 0, lines),
-        Checked::Refused { number, place } => pack(number, place, 0, 0, 0),
+    match check(bundle, d, a, r, slip) {
+        Ok(lines) => pack(0, 0, 0, 0, lines),
+        Err(refused) => pack(refused.number, refused.place, 0, 0, 0),
     }
 }
 

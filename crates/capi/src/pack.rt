@@ -6,17 +6,16 @@ ghost use Rattle.capi.specs.Written.{packed_numbers, PacksWrote};
 ghost use Rattle.capi.specs.Holders.{packed_storage};
 
 use answers::pack::pack;
-use storage::Storage;
+use base::refusal::Refusal;
 use tables::Filled;
-use writer::answer::Wrote;
 
 // The packed number of what filling the tables answers.
-pub(crate) fn pack_filled(filled: Filled) -> u64
+pub(crate) fn pack_filled(filled: Result<Filled, Refusal<u16>>) -> u64
     ensures { Packs (filled_outcome filled) result }
 {
     match filled {
-        Filled::Rounds { sizes: _, rounds } => pack(0, 0, 0, rounds, 0),
-        Filled::Refused { number, place } => pack(number, place, 0, 0, 0),
+        Ok(filled) => pack(0, 0, 0, filled.rounds, 0),
+        Err(refused) => pack(refused.number, refused.place, 0, 0, 0),
     }
 }
 
@@ -28,26 +27,28 @@ fn pack_below(number: u8, below: usize) -> u64
 }
 
 // The packed number of the writer's answer.
-pub(crate) fn pack_wrote(answer: Wrote) -> u64
+pub(crate) fn pack_wrote(answer: Result<usize, Refusal<usize>>) -> u64
     ensures { PacksWrote answer result }
 {
     match answer {
-        Wrote::Length(length) => pack_below(0, length),
-        Wrote::Refused { number, place } => pack_below(number, place),
+        Ok(length) => pack_below(0, length),
+        Err(refused) => pack_below(refused.number, refused.place),
     }
 }
 
 // The packed number of what is said of a record: a word of shelves fills the bits of two parts.
-pub(crate) fn pack_storage(answer: Storage) -> u64
+pub(crate) fn pack_storage(answer: Result<Option<u32>, Refusal<u16>>) -> u64
     ensures { result ≡ packed_storage answer }
 {
     match answer {
-        Storage::Held { shelves } => {
-            let high = shelves / 65536;
-            let low = shelves % 65536;
-            pack(0, 0, 1, high as u16, low as u16)
-        }
-        Storage::Ill => pack(0, 0, 0, 0, 0),
-        Storage::Refused { number, place } => pack(number, place, 0, 0, 0),
+        Ok(said) => match said {
+            Some(shelves) => {
+                let high = shelves / 65536;
+                let low = shelves % 65536;
+                pack(0, 0, 1, high as u16, low as u16)
+            }
+            None => pack(0, 0, 0, 0, 0),
+        },
+        Err(refused) => pack(refused.number, refused.place, 0, 0, 0),
     }
 }

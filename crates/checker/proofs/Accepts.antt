@@ -1,6 +1,7 @@
 -- A slip is accepted exactly when it shows, by RT0's definition over the bundle's credentials, what is asked. So what is accepted is
 -- a membership; every membership has a slip that is accepted; what is accepted stays accepted when credentials are appended; and any
 -- two answers that keep the promise are equal.
+use Rattle.std.specs.Prelude.{Ok}
 use Prim.Native.Nat.{ℕ, zero, suc, ◌+◌, ◌*◌, ◌/◌, ◌≤◌, ◌<◌}
 use native.Mathlib.Omega.{arith}
 use mathlib.Core.Path.{◌≡◌, refl, sym, ap, ◌∙◌}
@@ -28,7 +29,6 @@ use Rattle.bundle.specs.Held.{held, book_in}
 use Rattle.bundle.specs.Question.{role_asked, Asked}
 use Rattle.bundle.proofs.Accepted.{accepted_contents, holding_sound}
 use Rattle.bundle.proofs.Questions.{asked_clear, clear_asked}
-use Rattle.checker.specs.declared.check.Checked.TheVariants.{Accepted}
 use Rattle.checker.specs.Rows.{checker_rows, Checks}
 use Rattle.checker.specs.Shown.{Shown}
 use Rattle.checker.proofs.Refusals.{later, checker_numbers, slip_clear, clear_slip}
@@ -37,7 +37,7 @@ module _ (bundle : List ℕ) (q : Question) (slip : List ℕ) where
   -- From an acceptance to what it shows, and back.
 
   module _ (n : ℕ) where
-    accepted_shown : Checks bundle q slip (Accepted n) → Shown bundle q slip n
+    accepted_shown : Checks bundle q slip (Ok n) → Shown bundle q slip n
     accepted_shown (refused d _) = absurd (omega (arith, due_number (checker_rows bundle q slip) (checker_numbers bundle q slip) 0 0 d))
     accepted_shown (passed _ _ c lines) =
         let accepts : Accepts bundle (sizes_in bundle) = record { clear = clear_first (reader_rows bundle) (later bundle q slip) c; said = refl } in
@@ -53,7 +53,7 @@ module _ (bundle : List ℕ) (q : Question) (slip : List ℕ) where
           right = rw lines right;
         }
 
-    shown_accepted : Shown bundle q slip n → Checks bundle q slip (Accepted n)
+    shown_accepted : Shown bundle q slip n → Checks bundle q slip (Ok n)
     shown_accepted h =
         let asked = h.asked in
         let lines : n ≡ length slip / 8 = omega (arith, h.size) in
@@ -61,11 +61,11 @@ module _ (bundle : List ℕ) (q : Question) (slip : List ℕ) where
         passed refl refl (clear_both (reader_rows bundle) (later bundle q slip) asked.accepts.clear (asked_clear bundle h.sizes q asked, rows)) lines
 
     -- Accepted exactly when the slip shows it.
-    pub accepted_exactly : Checks bundle q slip (Accepted n) ↔ Shown bundle q slip n
+    pub accepted_exactly : Checks bundle q slip (Ok n) ↔ Shown bundle q slip n
     accepted_exactly = (accepted_shown, shown_accepted)
 
     -- What is accepted is a membership.
-    pub accepted_member : Checks bundle q slip (Accepted n) → Member (held bundle) (role_asked q) q.person
+    pub accepted_member : Checks bundle q slip (Ok n) → Member (held bundle) (role_asked q) q.person
     accepted_member h =
         let s = accepted_shown h in
         let sound = holding_sound bundle s.sizes s.asked.accepts in
@@ -76,7 +76,7 @@ module _ (bundle : List ℕ) (q : Question) (slip : List ℕ) where
 pub record SlipThere (bundle : List ℕ) (q : Question) : Type 0 where
   pub slip : List ℕ
   pub lines : ℕ
-  pub accepted : Checks bundle q slip (Accepted lines)
+  pub accepted : Checks bundle q slip (Ok lines)
   pub size : length slip ≤ slip_bytes
   pub small : (b : ℕ) → b ∈ slip → b < 256
 
@@ -126,7 +126,7 @@ same_lines xs ys (suc n) h =
 
 pub written_accepted : (bundle : List ℕ) (s : Sizes) (q : Question) → Asked bundle s q
     → (bytes : List ℕ) (n : ℕ) → 1 ≤ n → n ≤ slip_lines → 8 * n ≤ length bytes
-    → SlipFor (book_in bundle) (role_asked q) q.person (lines_of bytes n) → Checks bundle q (take (8 * n) bytes) (Accepted n)
+    → SlipFor (book_in bundle) (role_asked q) q.person (lines_of bytes n) → Checks bundle q (take (8 * n) bytes) (Ok n)
 written_accepted bundle s q asked bytes n some_line most_lines long right =
     let start = take (8 * n) bytes in
     let same : lines_of start n ≡ lines_of bytes n = same_lines start bytes n (λ k l. get_or-take (8 * n) bytes k 0 l) in
@@ -144,7 +144,7 @@ written_accepted bundle s q asked bytes n some_line most_lines long right =
 
 pub accepted_kept : (bundle more : List ℕ) (s t : Sizes) (q : Question) (slip : List ℕ) (n : ℕ) → Accepts bundle s → Accepts more t
     → s.entities ≡ t.entities → s.names ≡ t.names → Keeps (book_in bundle) (book_in more)
-    → Checks bundle q slip (Accepted n) → Checks more q slip (Accepted n)
+    → Checks bundle q slip (Ok n) → Checks more q slip (Ok n)
 accepted_kept bundle more s t q slip n h k E R keeps c =
     let shown = (accepted_exactly bundle q slip n).0 c in
     let same : shown.sizes ≡ s = shown.asked.accepts.said ∙ sym h.said in
@@ -166,6 +166,6 @@ accepted_kept bundle more s t q slip n h k E R keeps c =
 
 pub accepted_lasts : (bundle more : List ℕ) (s t : Sizes) (q : Question) (slip : List ℕ) (n : ℕ) (ks : List Credential)
     → Accepts bundle s → Accepts more t → s.entities ≡ t.entities → s.names ≡ t.names → held more ≡ held bundle ++ ks
-    → Checks bundle q slip (Accepted n) → Checks more q slip (Accepted n)
+    → Checks bundle q slip (Ok n) → Checks more q slip (Ok n)
 accepted_lasts bundle more s t q slip n ks h k E R appended =
     accepted_kept bundle more s t q slip n h k E R (rw appended (book_keeps (held bundle) ks))

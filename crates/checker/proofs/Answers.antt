@@ -1,4 +1,5 @@
 -- The checker's stages: each answers at the first refusal that applies, and else hands on.
+use Rattle.std.specs.Prelude.{Ok, Err}
 use Prim.Native.Nat.{ℕ, ◌+◌, ◌*◌, ◌/◌, ◌%◌, ◌<◌, ◌≤◌}
 use mathlib.Core.Path.{◌≡◌}
 use mathlib.Core.Bool.{Bool, true, false, not, ◌||◌}
@@ -13,9 +14,9 @@ use Rattle.rt0.specs.Book.{Book, item}
 use Rattle.rt0.specs.Slip.{Fact, ◌∋◌, stated}
 use Rattle.rt0.specs.Bytes.{lines_of}
 use Rattle.rt0.specs.Sizes.{slip_lines, slip_bytes}
+use Rattle.base.specs.Refused.{refusal_at}
 use Rattle.base.specs.Lowest.{lowest}
 use Rattle.base.proofs.Flags.{or_false}
-use Rattle.checker.specs.declared.check.Checked.TheVariants.{Accepted, Refused}
 use Rattle.checker.specs.Premise.{same_fact, line_wrong}
 use Rattle.checker.specs.Checking.{slip_length_wrong, last_states, last_tests, line_tests, slip_tests, check_by}
 
@@ -34,16 +35,16 @@ module _ (book : Book) (ρ : Role) (D : ℕ) (slip : List ℕ) where
       → last_states book ρ D slip n ≡ b
   last_is n f b f_is b_is = rw (b_is, f_is)
 
-  pub last_refused : last_states book ρ D slip (length slip / 8) ≡ false → Refused 11 0 ≡ check_by slip (last_tests book ρ D slip)
+  pub last_refused : last_states book ρ D slip (length slip / 8) ≡ false → Err (refusal_at 11 0) ≡ check_by slip (last_tests book ρ D slip)
   unfolding check_by last_tests
   last_refused h = rw h
 
-  pub last_passed : last_states book ρ D slip (length slip / 8) ≡ true → Accepted (length slip / 8) ≡ check_by slip (last_tests book ρ D slip)
+  pub last_passed : last_states book ρ D slip (length slip / 8) ≡ true → Ok (length slip / 8) ≡ check_by slip (last_tests book ρ D slip)
   unfolding check_by last_tests
   last_passed h = rw h
 
   pub lines_refused : (i : ℕ) → i ≡ lowest (line_wrong book slip) (length slip / 8) → i < length slip / 8
-      → Refused 10 (i + 1) ≡ check_by slip (line_tests book ρ D slip)
+      → Err (refusal_at 10 (i + 1)) ≡ check_by slip (line_tests book ρ D slip)
   unfolding check_by line_tests
   lines_refused i l h = rw (← l, lt-ltb i (length slip / 8) h)
 
@@ -52,7 +53,7 @@ module _ (book : Book) (ρ : Role) (D : ℕ) (slip : List ℕ) where
   unfolding check_by line_tests
   lines_passed i l h = rw (← l, le-ltb i (length slip / 8) h)
 
-  pub length_refused : slip_length_wrong (length slip) ≡ true → Refused 9 0 ≡ check_by slip (slip_tests book ρ D slip)
+  pub length_refused : slip_length_wrong (length slip) ≡ true → Err (refusal_at 9 0) ≡ check_by slip (slip_tests book ρ D slip)
   unfolding check_by slip_tests
   length_refused h = rw h
 

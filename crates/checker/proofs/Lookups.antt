@@ -1,5 +1,6 @@
 -- What the code reads is what the definitions say: a credential by its number, a line, its premises, and what each has to state.
 -- These laws serve the functions' own proofs.
+use Rattle.std.specs.Prelude.{Option as Maybe, Some, None}
 use Prim.Native.Nat.{ℕ, zero, suc, ◌+◌, ◌-◌, ◌*◌, ◌<◌, ◌≤◌}
 use native.Mathlib.Nat.{add_assoc}
 use native.Mathlib.Omega.{arith}
@@ -18,9 +19,8 @@ use Rattle.base.specs.Range.{outside}
 use Rattle.base.specs.Lowest.{lowest}
 use Rattle.base.proofs.Lowest.{Missed, missed_more, lowest_hit, any_hit, any_none}
 use Rattle.base.proofs.Flags.{inside}
+use Rattle.records.specs.declared.form.Role.{Role}
 use Rattle.records.specs.declared.form.Record.{Record}
-use Rattle.records.specs.declared.form.Head.{Head}
-use Rattle.records.specs.declared.form.Head.TheVariants.{Of, Nothing}
 use Rattle.records.specs.Form.{role_of, head_of, head_role, head_maybe, credential_of}
 use Rattle.records.proofs.Heads.{head_credential}
 use Rattle.bundle.specs.declared.read.Sizes.{Sizes}
@@ -52,20 +52,20 @@ module _ (bytes : List ℕ) (s : Sizes) (h : Accepts bytes s) where
       let size : length (held bytes) ≡ s.records = length_credentials bytes (records_of bytes) ∙ sym (accepted_contents bytes s h).records in
       sym (item_outside (held bytes) s.records c size l)
 
-  pub credential_inside : (c : ℕ) (k : Record) → outside s.records c ≡ false → k ≡ record_of bytes c → credential_of k ≡ book_in bytes c
+  pub credential_inside : (c : ℕ) (k : Maybe Record) → outside s.records c ≡ false → k ≡ record_of bytes c → credential_of k ≡ book_in bytes c
   credential_inside c k l e =
       let (above, within) = inside s.records c l in
       rw e (record_credential bytes s h c above within)
 
 -- What a line states with a credential and a member.
 
-claimed : (member : ℕ) (o : Option Credential) (h : Head) → head_role h ≡ head_maybe o → fact_in (claim_of member h) ≡ fact_of member o
-claimed member none (Of ρ) e = let z : ◌≡◌ {A = ℕ} 0 1 = cc in absurd (omega arith)
-claimed member none Nothing e = refl
-claimed member (some k) (Of ρ) e = let same : role_of ρ ≡ head k = cc in rw same
-claimed member (some k) Nothing e = let z : ◌≡◌ {A = ℕ} 0 1 = cc in absurd (omega arith)
+claimed : (member : ℕ) (o : Option Credential) (h : Maybe Role) → head_role h ≡ head_maybe o → fact_in (claim_of member h) ≡ fact_of member o
+claimed member none (Some ρ) e = let z : ◌≡◌ {A = ℕ} 0 1 = cc in absurd (omega arith)
+claimed member none None e = refl
+claimed member (some k) (Some ρ) e = let same : role_of ρ ≡ head k = cc in rw same
+claimed member (some k) None e = let z : ◌≡◌ {A = ℕ} 0 1 = cc in absurd (omega arith)
 
-pub claim_stated : (k : Record) (h : Head) (member : ℕ) → h ≡ head_of k → fact_in (claim_of member h) ≡ fact_of member (credential_of k)
+pub claim_stated : (k : Maybe Record) (h : Maybe Role) (member : ℕ) → h ≡ head_of k → fact_in (claim_of member h) ≡ fact_of member (credential_of k)
 claim_stated k h member e = claimed member (credential_of k) h (rw e (head_credential k))
 
 -- What line number p of n states: nothing where there is no such line, and else what its credential and member say.
@@ -94,12 +94,12 @@ premise_read slip i (suc zero) h = simp add_assoc
 premise_read slip i (suc (suc zero)) h = simp add_assoc
 premise_read slip i (suc (suc (suc j))) h = absurd (omega arith)
 
-pub pick_last : (j : ℕ) (first second third : Claim) → (j ≡ 0 → ⊥) → (j ≡ 1 → ⊥) → third ≡ pick_claim j first second third
+pub pick_last : (j : ℕ) (first second third : Maybe Claim) → (j ≡ 0 → ⊥) → (j ≡ 1 → ⊥) → third ≡ pick_claim j first second third
 pick_last zero first second third h k = absurd (h refl)
 pick_last (suc zero) first second third h k = absurd (k refl)
 pick_last (suc (suc j)) first second third h k = refl
 
-pub picked : (j : ℕ) (first second third : Claim) (facts : List Fact) → j < 3
+pub picked : (j : ℕ) (first second third : Maybe Claim) (facts : List Fact) → j < 3
     → fact_in first ≡ get_elem? facts 0 → fact_in second ≡ get_elem? facts 1 → fact_in third ≡ get_elem? facts 2
     → fact_in (pick_claim j first second third) ≡ get_elem? facts j
 picked zero first second third facts h a b c = a

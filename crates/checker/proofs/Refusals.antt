@@ -1,4 +1,8 @@
 -- What the checker computes is what its table of refusals says; and any two answers that keep the promise are equal.
+use Rattle.std.specs.Prelude.{Result, Ok, Err}
+use Rattle.base.specs.declared.refusal.Refusal.{Refusal as Refused}
+use Rattle.base.specs.Refused.{refusal_at, number_of, place_of}
+use Rattle.base.proofs.Refused.{refused_same}
 use Prim.Native.Nat.{ℕ, suc, ◌*◌, ◌/◌, ◌<◌, ◌≤◌}
 use mathlib.Core.Path.{◌≡◌, refl, sym, ap, ◌∙◌}
 use mathlib.Core.Bool.{Bool, true, false, cond, not}
@@ -22,8 +26,6 @@ use Rattle.base.proofs.Refusals.{one_place_both, numbered_both, due_first, due_l
 use Rattle.base.proofs.Refusals.{judged_exactly, judged_clear}
 use Rattle.base.proofs.Refusals.{Told, due, none_due, told_more, clear_both, clear_first, clear_later, none_missed, missed_no}
 use Rattle.bundle.specs.declared.read.Sizes.{Sizes}
-use Rattle.bundle.specs.declared.read.Reading.{Reading}
-use Rattle.bundle.specs.declared.read.Reading.TheVariants as reading
 use Rattle.bundle.specs.declared.question.Question.{Question}
 use Rattle.bundle.specs.Layout.{sizes_in}
 use Rattle.bundle.specs.Rows.{reader_rows, Reads, Accepts}
@@ -34,10 +36,8 @@ use Rattle.bundle.proofs.Refusals.{reader_places, reader_numbers, reads, reads_a
 use Rattle.bundle.proofs.Determined.{reads_refused}
 use Rattle.bundle.proofs.Accepted.{holding_sound}
 use Rattle.bundle.proofs.Questions.{question_applies, question_clear}
-use Rattle.checker.specs.declared.check.Checked.{Checked}
-use Rattle.checker.specs.declared.check.Checked.TheVariants.{Accepted, Refused}
 use Rattle.checker.specs.Premise.{line_wrong}
-use Rattle.checker.specs.Rows.{lines_in, SlipLengthWrong, Breaks, FirstBroken, slip_rows, checker_rows, number_of, place_of, Checks}
+use Rattle.checker.specs.Rows.{lines_in, SlipLengthWrong, Breaks, FirstBroken, slip_rows, checker_rows, Checks}
 use Rattle.checker.specs.Checking.{slip_length_wrong, last_states, last_tests, line_tests, slip_tests, checked_for, check_by, check_after, checking_of}
 use Rattle.checker.proofs.Answers.{slip_length_right}
 use Rattle.checker.proofs.Rules.{line_at, line_right, slip_right, last_right}
@@ -131,12 +131,12 @@ module _ (bundle : List ℕ) (q : Question) (slip : List ℕ) where
       (zero_place _, (zero_place _, (from_one_place _ (broken_place (book_in bundle) (lines_in slip)), (zero_place _, tt))))
 
   -- the reader's refusal
-  pub reader_refused : (n p : ℕ) → Reads bundle (reading.Refused n p) → Checks bundle q slip (Refused n p)
+  pub reader_refused : (n p : ℕ) → Reads bundle (Err (refusal_at n p)) → Checks bundle q slip (Err (refusal_at n p))
   reader_refused n p r = refused (due_first (reader_rows bundle) later n p (reads_refused bundle n p r)) refl
 
   module _ (s : Sizes) (h : Accepts bundle s) where
     -- the question's
-    pub question_refused : question_wrong s.entities s.names q ≡ true → Checks bundle q slip (Refused 7 0)
+    pub question_refused : question_wrong s.entities s.names q ≡ true → Checks bundle q slip (Err (refusal_at 7 0))
     question_refused w =
         refused (due_later (reader_rows bundle) later 7 0 h.clear (inl (refl, question_applies bundle s q h w))) refl
 
@@ -144,7 +144,7 @@ module _ (bundle : List ℕ) (q : Question) (slip : List ℕ) where
     told_slip = let sound = holding_sound bundle s h in slip_told _ _ _ sound.valid (book_in bundle) sound.numbered.only slip (role_asked q) q.person
 
     -- what the tests of the slip give
-    pub slip_answered : (answer : Checked) → question_wrong s.entities s.names q ≡ false
+    pub slip_answered : (answer : Result ℕ (Refused ℕ)) → question_wrong s.entities s.names q ≡ false
         → answer ≡ check_by slip (slip_tests (book_in bundle) (role_asked q) q.person slip) → Checks bundle q slip answer
     unfolding check_by
     slip_answered answer w e = rw e (by (first (slip_tests (book_in bundle) (role_asked q) q.person slip)) told_slip)
@@ -160,15 +160,15 @@ module _ (bundle : List ℕ) (q : Question) (slip : List ℕ) where
   unfolding check_after
   checks = by (read_of bundle) (reads bundle)
     where
-      by : (r : Reading) → Reads bundle r → Checks bundle q slip (check_after r bundle q slip)
-      by (reading.Refused n p) r = reader_refused n p r
-      by (reading.Accepted s) r = after (question_wrong s.entities s.names q) refl
+      by : (r : Result Sizes (Refused ℕ)) → Reads bundle r → Checks bundle q slip (check_after r bundle q slip)
+      by (Err why) r = reader_refused why.number why.place r
+      by (Ok s) r = after (question_wrong s.entities s.names q) refl
         where
           accepts : Accepts bundle s
           accepts = reads_accepted bundle s r
 
           after : (w : Bool) → question_wrong s.entities s.names q ≡ w
-              → Checks bundle q slip (cond w (Refused 7 0) (check_by slip (slip_tests (book_in bundle) (role_asked q) q.person slip)))
+              → Checks bundle q slip (cond w (Err (refusal_at 7 0)) (check_by slip (slip_tests (book_in bundle) (role_asked q) q.person slip)))
           after true e = question_refused s accepts e
           after false e = slip_answered s accepts _ e refl
 
@@ -213,26 +213,26 @@ module _ (bundle : List ℕ) (q : Question) (slip : List ℕ) where
       omega (arith, (clear_slip (sizes_in bundle) accepts (clear_later (reader_rows bundle) later c).1).0)
 
   -- two answers that keep the promise are equal
-  pub answers_equal : (one two : Checked) → Checks bundle q slip one → Checks bundle q slip two → one ≡ two
-  answers_equal (Accepted m) (Accepted n) (passed _ _ c e) (passed _ _ d f) = ap Accepted (e ∙ sym f)
-  answers_equal (Accepted m) two (refused d k) p = absurd (omega (arith, due_number (checker_rows bundle q slip) checker_numbers 0 0 d))
-  answers_equal (Accepted m) (Accepted n) (passed _ _ c e) (refused d k) =
+  pub answers_equal : (one two : Result ℕ (Refused ℕ)) → Checks bundle q slip one → Checks bundle q slip two → one ≡ two
+  answers_equal (Ok m) (Ok n) (passed _ _ c e) (passed _ _ d f) = ap Ok (e ∙ sym f)
+  answers_equal (Ok m) two (refused d k) p = absurd (omega (arith, due_number (checker_rows bundle q slip) checker_numbers 0 0 d))
+  answers_equal (Ok m) (Ok n) (passed _ _ c e) (refused d k) =
       absurd (omega (arith, due_number (checker_rows bundle q slip) checker_numbers 0 0 d))
-  answers_equal (Accepted m) (Refused n p) (passed _ _ c e) (refused d k) = absurd (due_clear (checker_rows bundle q slip) n p c d)
-  answers_equal (Accepted m) (Refused n p) (passed _ _ c e) (passed _ _ _ f) = absurd (some_lines c f)
-  answers_equal (Refused n p) two (passed _ _ c e) t = absurd (some_lines c e)
-  answers_equal (Refused n p) (Accepted m) (refused d k) (refused e l) =
+  answers_equal (Ok m) (Err why) (passed _ _ c e) (refused d k) = absurd (due_clear (checker_rows bundle q slip) why.number why.place c d)
+  answers_equal (Ok m) (Err why) (passed _ _ c e) (passed _ _ _ f) = absurd (some_lines c f)
+  answers_equal (Err why) two (passed _ _ c e) t = absurd (some_lines c e)
+  answers_equal (Err why) (Ok m) (refused d k) (refused e l) =
       absurd (omega (arith, due_number (checker_rows bundle q slip) checker_numbers 0 0 e))
-  answers_equal (Refused n p) (Accepted m) (refused d k) (passed _ _ c e) = absurd (due_clear (checker_rows bundle q slip) n p c d)
-  answers_equal (Refused n p) (Refused m o) (refused d k) (refused e l) =
-      let (same, place) = due_unique (checker_rows bundle q slip) checker_places n p m o d e in
-      cc
-  answers_equal (Refused n p) (Refused m o) (refused d k) (passed _ _ c e) = absurd (some_lines c e)
+  answers_equal (Err why) (Ok m) (refused d k) (passed _ _ c e) = absurd (due_clear (checker_rows bundle q slip) why.number why.place c d)
+  answers_equal (Err why) (Err other) (refused d k) (refused e l) =
+      let (same, place) = due_unique (checker_rows bundle q slip) checker_places why.number why.place other.number other.place d e in
+      refused_same _ _ same place
+  answers_equal (Err why) (Err other) (refused d k) (passed _ _ c e) = absurd (some_lines c e)
 
   -- number and place exactly when due; number 0 exactly when no row applies
-  pub checker_exactly : (c : Checked) → Checks bundle q slip c → (n p : ℕ) → 1 ≤ n
+  pub checker_exactly : (c : Result ℕ (Refused ℕ)) → Checks bundle q slip c → (n p : ℕ) → 1 ≤ n
       → ((number_of c ≡ n) × (place_of c ≡ p)) ↔ Due (checker_rows bundle q slip) n p
   checker_exactly c = judged_exactly (checker_rows bundle q slip) checker_places checker_numbers
 
-  pub checker_clear : (c : Checked) → Checks bundle q slip c → (number_of c ≡ 0) ↔ Clear (checker_rows bundle q slip)
+  pub checker_clear : (c : Result ℕ (Refused ℕ)) → Checks bundle q slip c → (number_of c ≡ 0) ↔ Clear (checker_rows bundle q slip)
   checker_clear c = judged_clear (checker_rows bundle q slip) checker_places checker_numbers

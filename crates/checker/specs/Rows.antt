@@ -1,6 +1,6 @@
 -- The checker's table of refusals, in the paper's order: the reader's rows, the question's, and its own, 9 to 11, on the slip. A line breaks
 -- the slip's rules where it is not right by RT0's definition. And what an answer of the checker comes to by it, in the paper's numbers.
-use Rattle.std.specs.Prelude.{ℕ, ◌/◌, ◌%◌, ◌<◌, ◌≡◌, ◌⊎◌, List, [], ◌∷◌, ◌++◌, length, take}
+use Rattle.std.specs.Prelude.{ℕ, ◌/◌, ◌%◌, ◌<◌, ◌≡◌, ◌⊎◌, List, [], ◌∷◌, ◌++◌, length, take, Result, Ok, Err}
 use Rattle.std.proofs.Math.Option.{some}
 use Rattle.std.proofs.Math.ListN.{get_elem?}
 use Rattle.rt0.specs.Credential.{Role}
@@ -8,13 +8,13 @@ use Rattle.rt0.specs.Book.{Book}
 use Rattle.rt0.specs.Slip.{Line, ◌∋◌, Says, RightLine, RightSlip}
 use Rattle.rt0.specs.Bytes.{lines_of}
 use Rattle.rt0.specs.Sizes.{slip_bytes}
+use Rattle.base.specs.declared.refusal.Refusal.{Refusal}
+use Rattle.base.specs.Refused.{number_of, place_of}
 use Rattle.base.specs.Refusals.{Row, row, AtZero, FromOne, Judged}
 use Rattle.bundle.specs.declared.question.Question.{Question}
 use Rattle.bundle.specs.Rows.{reader_rows}
 use Rattle.bundle.specs.Held.{book_in}
 use Rattle.bundle.specs.Question.{role_asked, question_row}
-use Rattle.checker.specs.declared.check.Checked.{Checked}
-use Rattle.checker.specs.declared.check.Checked.TheVariants.{Accepted, Refused}
 
 -- the lines of a slip
 abbrev pub lines_in : List ℕ → List Line
@@ -49,21 +49,13 @@ slip_rows book ρ D slip =
 abbrev pub checker_rows : List ℕ → Question → List ℕ → List Row
 checker_rows bundle q slip = reader_rows bundle ++ (question_row bundle q ∷ slip_rows (book_in bundle) (role_asked q) q.person slip)
 
--- the paper's number, place and lines of an answer
-abbrev pub number_of : Checked → ℕ
-number_of (Accepted lines) = 0
-number_of (Refused number place) = number
-
-abbrev pub place_of : Checked → ℕ
-place_of (Accepted lines) = 0
-place_of (Refused number place) = place
-
-abbrev pub lines_number : Checked → ℕ
-lines_number (Accepted lines) = lines
-lines_number (Refused number place) = 0
+-- the lines of an answer
+abbrev pub lines_number : Result ℕ (Refusal ℕ) → ℕ
+lines_number (Ok lines) = lines
+lines_number (Err why) = 0
 
 -- this is the checker's answer to a bundle, a question and a slip: the refusal that is due, or, where no row applies, acceptance with the
 -- number of lines
-abbrev pub Checks : List ℕ → Question → List ℕ → Checked → Type 0
+abbrev pub Checks : List ℕ → Question → List ℕ → Result ℕ (Refusal ℕ) → Type 0
 Checks bundle q slip c =
     Judged (checker_rows bundle q slip) (number_of c) (place_of c) (lines_number c ≡ 0) (lines_number c ≡ length slip / 8)

@@ -11,19 +11,11 @@ ghost use Rattle.checker.specs.Checking.{check_by, slip_tests};
 
 use crate::claim::same;
 use crate::line::{Line, broken, stated};
+use base::refusal::{Cause, Refusal};
 use bundle::question::{Question, question_wrong};
-use bundle::read::{Reading, Sizes, read};
+use bundle::read::{Sizes, read};
 use records::form::Role;
 use rt0::Slip;
-
-// What the checker answers.
-#[derive(Clone, Copy)]
-pub enum Checked {
-    // Every line is right, and the last states the question's fact.
-    Accepted { lines: u16 },
-    // The first refusal that applies, at its place.
-    Refused { number: u8, place: u16 },
-}
 
 // The first line, counted from 0, that is wrong, whichever premise shows it; or the number of lines.
 fn first_broken(bundle: &[u8], sizes: Sizes, slip: &[u8], lines: usize) -> usize
@@ -42,26 +34,25 @@ fn first_broken(bundle: &[u8], sizes: Sizes, slip: &[u8], lines: usize) -> usize
     first
 }
 
-// The answer for a bundle that is read and a question in range: whether the slip shows what is asked.
-fn check_slip(bundle: &[u8], sizes: Sizes, question: Question, slip: &[u8]) -> Checked
+// The answer for a bundle that is read and a question in range: the number of the slip's lines, if it shows what is asked.
+fn check_slip(
+    bundle: &[u8],
+    sizes: Sizes,
+    question: Question,
+    slip: &[u8],
+) -> Result<u16, Refusal<u16>>
     requires { Accepts bundle.now sizes }
     ensures { result ≡ check_by slip.now
         (slip_tests (book_in bundle.now) (role_asked question) question.person slip.now) }
 {
     let size = slip.len();
     if (size == 0) | (Line::SIZE * Slip::LINES < size) | (size % Line::SIZE != 0) {
-        return Checked::Refused {
-            number: 9,
-            place: 0,
-        };
+        return Err(Cause::SlipLength.at(0));
     }
     let lines = size / Line::SIZE;
     let i = first_broken(bundle, sizes, slip, lines);
     if i < lines {
-        return Checked::Refused {
-            number: 10,
-            place: (i + 1) as u16,
-        };
+        return Err(Cause::Line.at((i + 1) as u16));
     }
     let last = stated(bundle, sizes, slip, lines, lines);
     let role = Role {
@@ -69,44 +60,23 @@ fn check_slip(bundle: &[u8], sizes: Sizes, question: Question, slip: &[u8]) -> C
         name: question.name,
     };
     if !same(last, role, question.person) {
-        return Checked::Refused {
-            number: 11,
-            place: 0,
-        };
+        return Err(Cause::Fact.at(0));
     }
-    Checked::Accepted {
-        lines: lines as u16,
-    }
+    Ok(lines as u16)
 }
 
-// The answer to every bundle, question and slip.
-pub fn check(bundle: &[u8], d: u8, a: u8, r: u8, slip: &[u8]) -> Checked
+// The answer to every bundle, question and slip: the number of lines, where every line is right and the last states the question's fact.
+pub fn check(bundle: &[u8], d: u8, a: u8, r: u8, slip: &[u8]) -> Result<u16, Refusal<u16>>
     ensures { Checks bundle.now (ask d a r) slip.now result }
 {
-    let reading = read(bundle);
-    let Reading::Accepted(sizes) = reading else {
-        match reading {
-            Reading::Refused { number, place } => {
-                return Checked::Refused { number, place };
-            }
-            Reading::Accepted(_) => {
-                return Checked::Refused {
-                    number: 0,
-                    place: 0,
-                };
-            }
-        }
-    };
+    let sizes = read(bundle)?;
     let question = Question {
         person: d as usize,
         entity: a as usize,
         name: r as usize,
     };
     if question_wrong(sizes.entities, sizes.names, question) {
-        return Checked::Refused {
-            number: 7,
-            place: 0,
-        };
+        return Err(Cause::Question.at(0));
     }
     check_slip(bundle, sizes, question, slip)
 }

@@ -5,48 +5,53 @@ ghost use Rattle.records.specs.Form.{credential_of, role_of};
 ghost use Rattle.checker.specs.Premise.{same_fact, member_of};
 ghost use Rattle.checker.specs.Claim.{fact_in, pick_claim};
 
-use records::form::{Head, Record, Role, head_of};
+use records::form::{Record, Role, head_of};
 
-// That a member is in a role, or nothing.
+// That a member is in a role.
 #[derive(Clone, Copy)]
-pub enum Claim {
-    That(Role, usize),
-    Nothing,
+pub struct Claim {
+    pub role: Role,
+    pub member: usize,
 }
 
 // What a line states with this credential and member: that the member is in the credential's head.
-pub(crate) fn stated_by(credential: Record, member: usize) -> Claim
+pub(crate) fn stated_by(credential: Option<Record>, member: usize) -> Option<Claim>
     ensures { fact_in result ≡ fact_of member (credential_of credential) }
 {
-    match head_of(credential) {
-        Head::Of(head) => Claim::That(head, member),
-        Head::Nothing => Claim::Nothing,
-    }
+    let role = head_of(credential)?;
+    Some(Claim { role, member })
 }
 
 // Whether a claim is that the member is in the role.
-pub(crate) fn same(claim: Claim, role: Role, member: usize) -> bool
+pub(crate) fn same(claim: Option<Claim>, role: Role, member: usize) -> bool
     ensures { result ≡ same_fact (fact_in claim) (role_of role ∋ member) }
 {
     match claim {
-        Claim::That(its, who) => ((its.entity == role.entity) & (its.name == role.name))
-            & (who == member),
-        Claim::Nothing => false,
+        Some(claim) => {
+            ((claim.role.entity == role.entity) & (claim.role.name == role.name))
+                & (claim.member == member)
+        }
+        None => false,
     }
 }
 
 // The member of a claim, or 0.
-pub(crate) fn member_of(claim: Claim) -> usize
+pub(crate) fn member_of(claim: Option<Claim>) -> usize
     ensures { result ≡ member_of (fact_in claim) }
 {
     match claim {
-        Claim::That(_, member) => member,
-        Claim::Nothing => 0,
+        Some(claim) => claim.member,
+        None => 0,
     }
 }
 
 // Claim number j of three, counted from 0.
-pub(crate) fn pick(j: usize, first: Claim, second: Claim, third: Claim) -> Claim
+pub(crate) fn pick(
+    j: usize,
+    first: Option<Claim>,
+    second: Option<Claim>,
+    third: Option<Claim>,
+) -> Option<Claim>
     ensures { result ≡ pick_claim j first second third }
 {
     match j {

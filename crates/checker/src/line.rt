@@ -37,24 +37,30 @@ pub(crate) fn premise(slip: &[u8], i: usize, j: usize) -> usize
     byte(slip, at) + 256 * byte(slip, at + 1)
 }
 
-// The credential of a number, from 1 to the number of records.
-pub(crate) fn credential(bundle: &[u8], sizes: Sizes, number: usize) -> Record
+// The credential of a number, where it is from 1 to the number of records.
+pub(crate) fn credential(bundle: &[u8], sizes: Sizes, number: usize) -> Option<Record>
     requires { Accepts bundle.now sizes }
     ensures { credential_of result ≡ book_in bundle.now number }
 {
     if outside(sizes.records, number) {
-        return Record::Nothing;
+        return None;
     }
     record_at(bundle, number)
 }
 
 // What line number p, from 1, of the first so many lines states.
-pub(crate) fn stated(bundle: &[u8], sizes: Sizes, slip: &[u8], lines: usize, p: usize) -> Claim
+pub(crate) fn stated(
+    bundle: &[u8],
+    sizes: Sizes,
+    slip: &[u8],
+    lines: usize,
+    p: usize,
+) -> Option<Claim>
     requires { Accepts bundle.now sizes × (lines ≤ slip_lines) }
     ensures { fact_in result ≡ stated_of (book_in bundle.now) (item (lines_of slip.now lines) p) }
 {
     if outside(lines, p) {
-        return Claim::Nothing;
+        return None;
     }
     let at = Line::SIZE * (p - 1);
     let number = byte(slip, at + 1);
@@ -62,29 +68,13 @@ pub(crate) fn stated(bundle: &[u8], sizes: Sizes, slip: &[u8], lines: usize, p: 
 }
 
 // Whether no line with this member is right by a credential, whatever its premises.
-pub(crate) fn useless(credential: Record, member: usize) -> bool
+pub(crate) fn useless(credential: Option<Record>, member: usize) -> bool
     ensures { result ≡ useless_of (credential_of credential) member }
 {
     match credential {
-        Record::Entity { head: _, entity } => member != entity,
-        Record::Role { head: _, role: _ } => false,
-        Record::Link {
-            head: _,
-            first: _,
-            second: _,
-        } => false,
-        Record::TwoParts {
-            head: _,
-            one: _,
-            two: _,
-        } => false,
-        Record::ThreeParts {
-            head: _,
-            one: _,
-            two: _,
-            three: _,
-        } => false,
-        Record::Nothing => true,
+        Some(Record::Entity { head: _, entity }) => member != entity,
+        Some(_) => false,
+        None => true,
     }
 }
 
@@ -96,7 +86,7 @@ pub(crate) fn wanted_by_link(
     member: usize,
     linked: usize,
     j: usize,
-) -> Claim
+) -> Option<Claim>
     requires { j < 3 }
     ensures { fact_in result ≡ get_elem? ((issuer · first ∋ linked) ∷ (linked · second ∋ member) ∷ []) j }
 {
@@ -110,25 +100,28 @@ pub(crate) fn wanted_by_link(
     };
     pick(
         j,
-        Claim::That(near, linked),
-        Claim::That(far, member),
-        Claim::Nothing,
+        Some(Claim {
+            role: near,
+            member: linked,
+        }),
+        Some(Claim { role: far, member }),
+        None,
     )
 }
 
 // What premise j of a line has to state, by the line's credential and member and the member that its first premise is about.
-pub(crate) fn wanted(credential: Record, member: usize, linked: usize, j: usize) -> Claim
+pub(crate) fn wanted(
+    credential: Option<Record>,
+    member: usize,
+    linked: usize,
+    j: usize,
+) -> Option<Claim>
     requires { j < 3 }
     ensures { fact_in result ≡ wanted_at (credential_of credential) member linked j }
 {
-    match credential {
-        Record::Entity { head: _, entity: _ } => Claim::Nothing,
-        Record::Role { head: _, role } => pick(
-            j,
-            Claim::That(role, member),
-            Claim::Nothing,
-            Claim::Nothing,
-        ),
+    match credential? {
+        Record::Entity { head: _, entity: _ } => None,
+        Record::Role { head: _, role } => pick(j, Some(Claim { role, member }), None, None),
         Record::Link {
             head,
             first,
@@ -136,22 +129,27 @@ pub(crate) fn wanted(credential: Record, member: usize, linked: usize, j: usize)
         } => wanted_by_link(head.entity, first, second, member, linked, j),
         Record::TwoParts { head: _, one, two } => pick(
             j,
-            Claim::That(one, member),
-            Claim::That(two, member),
-            Claim::Nothing,
+            Some(Claim { role: one, member }),
+            Some(Claim { role: two, member }),
+            None,
         ),
         Record::ThreeParts {
             head: _,
             one,
             two,
             three,
-        } => pick(
-            j,
-            Claim::That(one, member),
-            Claim::That(two, member),
-            Claim::That(three, member),
-        ),
-        Record::Nothing => Claim::Nothing,
+        } => {
+            let last = Claim {
+                role: three,
+                member,
+            };
+            pick(
+                j,
+                Some(Claim { role: one, member }),
+                Some(Claim { role: two, member }),
+                Some(last),
+            )
+        }
     }
 }
 
@@ -169,7 +167,7 @@ pub(crate) fn broken(bundle: &[u8], sizes: Sizes, slip: &[u8], i: usize, j: usiz
     let linked = member_of(stated(bundle, sizes, slip, i, premise(slip, i, 0)));
     let p = premise(slip, i, j);
     match wanted(its, member, linked, j) {
-        Claim::That(role, who) => !same(stated(bundle, sizes, slip, i, p), role, who),
-        Claim::Nothing => p != 0,
+        Some(claim) => !same(stated(bundle, sizes, slip, i, p), claim.role, claim.member),
+        None => p != 0,
     }
 }

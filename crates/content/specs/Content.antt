@@ -1,12 +1,12 @@
 -- What a bundle holds: E, R, the marks of the shelves and the records. When this is valid; the content that bytes have; and the content that
 -- is given as E, R, a list of mark bytes and a list of records one after the other.
-use Rattle.std.specs.Prelude.{ℕ, zero, suc, ◌+◌, ◌-◌, ◌*◌, ◌/◌, ◌<◌, ◌≤◌, ◌≡◌, Bool, false, cond, not, ◌&&◌, ◌||◌, List, [], ◌∷◌, ◌++◌, length, get_or, take, drop, eqb, ltb, leb}
+use Rattle.std.specs.Prelude.{ℕ, zero, suc, ◌+◌, ◌-◌, ◌*◌, ◌/◌, ◌<◌, ◌≤◌, ◌≡◌, Bool, false, cond, not, ◌&&◌, ◌||◌, List, [], ◌∷◌, ◌++◌, length, get_or, take, drop, eqb, ltb, leb, Option, Some, None}
 use Rattle.base.specs.Byte.{byte_at}
 use Rattle.base.specs.Range.{outside}
 use Rattle.base.specs.Lowest.{any_below}
 use Rattle.records.specs.Mistake.{record_wrong}
 use Rattle.bundle.specs.declared.access.Mark.{Mark}
-use Rattle.bundle.specs.declared.access.Mark.TheVariants.{Present, Absent, Unmarked}
+use Rattle.bundle.specs.declared.access.Mark.TheVariants.{Present, Absent}
 use Rattle.bundle.specs.Edition.{most_names}
 use Rattle.bundle.specs.Layout.{entities_of, names_of, records_of, record_bytes}
 
@@ -34,9 +34,9 @@ abbrev pub record_at : Content → ℕ → List ℕ
 record_at c n = get_or c.records n []
 
 -- the mark of shelf A, counted from 1
-abbrev pub mark_in : Content → ℕ → Mark
+abbrev pub mark_in : Content → ℕ → Option Mark
 mark_in c A =
-    cond (outside 32 A) Unmarked (cond (eqb (byte_at c.marks (A - 1)) 1) Present (cond (eqb (byte_at c.marks (A - 1)) 2) Absent Unmarked))
+    cond (outside 32 A) None (cond (eqb (byte_at c.marks (A - 1)) 1) (Some Present) (cond (eqb (byte_at c.marks (A - 1)) 2) (Some Absent) None))
 
 -- the mark byte of the shelf that has i before it is wrong over E entities: 1 or 2 for those that there are, 0 for the others
 abbrev pub mark_wrong : ℕ → ℕ → ℕ → Bool

@@ -1,6 +1,7 @@
 -- Unless refused: YES exactly if RT0's least membership over the credentials held contains the person; NO exactly if they are no member
 -- under any completion; UNSURE in every other case, and never where every shelf is present. With YES the checker accepts the slip, with that
 -- number of lines.
+use Rattle.std.specs.Prelude.{Ok, Some}
 use Prim.Native.Nat.{ℕ, ◌*◌, ◌-◌, ◌≤◌, ◌<◌}
 use native.Mathlib.Decide.{dec_lt}
 use native.Mathlib.Omega.{arith}
@@ -29,7 +30,6 @@ use Rattle.bundle.specs.Question.{role_asked, question_row, Asked}
 use Rattle.bundle.proofs.Accepted.{Contents, accepted_contents}
 use Rattle.bundle.proofs.Questions.{clear_asked}
 use Rattle.answers.specs.Answer.{Outcome, verdict_number}
-use Rattle.checker.specs.declared.check.Checked.TheVariants.{Accepted}
 use Rattle.checker.specs.Rows.{Checks}
 use Rattle.checker.proofs.Accepts.{written_accepted}
 use Rattle.words.specs.Sizes.{most_entities, width}
@@ -84,7 +84,7 @@ module _ (bytes : List ℕ) (q : Question) (before after : Lent) (o : Outcome) (
   unsure_exactly = exactly UNSURE
 
   -- where every shelf of the bundle is marked present the verdict is never UNSURE
-  pub never_unsure : ((A : ℕ) → IsEntity (entities_of bytes) A → mark_of bytes A ≡ Present) → o.verdict ≡ 3 → ⊥
+  pub never_unsure : ((A : ℕ) → IsEntity (entities_of bytes) A → mark_of bytes A ≡ Some Present) → o.verdict ≡ 3 → ⊥
   never_unsure present e =
       all_present_lem (entities_of bytes) (names_of bytes) (shelves bytes) (λ A i. ap shelf_of (present A i)) (held bytes) (role_asked q) q.person
       (unsure_exactly.0 e)
@@ -96,7 +96,7 @@ module _ (bytes : List ℕ) (q : Question) (before after : Lent) (o : Outcome) (
   written : o.verdict ≡ 1 → Written (book_in bytes) (role_asked q) q.person before.slip o.lines after.slip
   written y = rw (word_is answer YES y) at answer.slip
 
-  pub slip_accepted : o.verdict ≡ 1 → Checks bytes q (take (8 * o.lines) after.slip) (Accepted o.lines)
+  pub slip_accepted : o.verdict ≡ 1 → Checks bytes q (take (8 * o.lines) after.slip) (Ok o.lines)
   slip_accepted y =
       let w = written y in
       let inside : 8 * o.lines ≤ length after.slip = omega (arith, w.most_lines, w.size, room) in

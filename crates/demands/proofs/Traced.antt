@@ -1,6 +1,7 @@
 -- What the answers on storage come to, on the bytes of a bundle: where every record is answered with the shelves that must hold it, all
 -- credentials are structurally well typed. If besides none of them is of form 4, leaving out every credential whose head's name is not
 -- issuer-traces-all leaves the sure members of every issuer-traces-all role the same.
+use Rattle.std.specs.Prelude.{Ok, Some}
 use Prim.Native.Nat.{ℕ, ◌≤◌}
 use mathlib.Core.Path.{◌≡◌, refl, sym, ◌∙◌}
 use mathlib.Core.Logic.{◌↔◌}
@@ -18,13 +19,12 @@ use Rattle.types.specs.Name.{IssuerTracesAll}
 use Rattle.types.specs.Typed.{AllTyped, NoneTogether, traced}
 use Rattle.types.proofs.Traced.{traced_members}
 use Rattle.sheet.specs.Types.{types_by}
-use Rattle.storage.specs.declared.Storage.TheVariants.{Held}
 use Rattle.storage.specs.Promise.{storage_rows, StoragePromise}
 use Rattle.storage.proofs.Refusals.{storage_places, storage_numbers}
 
 -- every record is answered with some shelves
 abbrev AllHeld : List ℕ → List ℕ → Type 0
-AllHeld bundle sheet = (n : ℕ) → 1 ≤ n → n ≤ records_of bundle → (shelves : ℕ) × StoragePromise bundle sheet n (Held shelves)
+AllHeld bundle sheet = (n : ℕ) → 1 ≤ n → n ≤ records_of bundle → (shelves : ℕ) × StoragePromise bundle sheet n (Ok (Some shelves))
 
 module _ (bundle sheet : List ℕ) (s : Sizes) (h : Accepts bundle s) (all : AllHeld bundle sheet) where
   pub held_typed : AllTyped (types_by sheet) (held bundle)

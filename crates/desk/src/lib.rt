@@ -5,9 +5,8 @@ ghost use Rattle.std.specs.Prelude.{◌≡◌, min};
 ghost use Rattle.listed.specs.Listing.{Tells};
 ghost use Rattle.desk.specs.Answer.{most_place, listed_as};
 
+use base::refusal::Refusal;
 use listed::Listing;
-use lists::Listed;
-use writer::answer::Wrote;
 
 // A place as far as a line says it.
 fn said_place(place: usize) -> u16
@@ -17,20 +16,17 @@ fn said_place(place: usize) -> u16
 }
 
 // An answer of the writer or of letters, as that of a list.
-fn listed_as(wrote: Wrote) -> Listed
+fn listed_as(wrote: Result<usize, Refusal<usize>>) -> Result<usize, Refusal<u16>>
     ensures { result ≡ listed_as wrote }
 {
-    match wrote {
-        Wrote::Length(n) => Listed::Length(n),
-        Wrote::Refused { number, place } => Listed::Refused {
-            number,
-            place: said_place(place),
-        },
-    }
+    wrote.map_err(|refused| Refusal {
+        number: refused.number,
+        place: said_place(refused.place),
+    })
 }
 
 // What is said of such an answer: the bytes that it left, or the line of its refusal.
-pub fn listing_of(wrote: Wrote) -> Listing
+pub fn listing_of(wrote: Result<usize, Refusal<usize>>) -> Listing
     ensures { Tells (listed_as wrote) result }
 {
     listed::listing_of(listed_as(wrote))

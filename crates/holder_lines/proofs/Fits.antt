@@ -1,4 +1,5 @@
 -- No text of all records needs more bytes than are asked for, as every number has few digits.
+use Rattle.std.specs.Prelude.{Option, Some, None}
 use Prim.Native.Nat.{ℕ, zero, suc, ◌*◌, ◌<◌, ◌≤◌}
 use native.Mathlib.Nat.{suc-mul}
 use native.Mathlib.Omega.{arith}
@@ -11,8 +12,6 @@ use Rattle.text.specs.Decimal.{decimal}
 use Rattle.text.proofs.Decimal.{few_digits}
 use Rattle.lines.specs.Numbered.{is_one}
 use Rattle.lines.proofs.Fits.{end_few}
-use Rattle.storage.specs.declared.Storage.{Storage}
-use Rattle.storage.specs.declared.Storage.TheVariants.{Held, Ill, Refused}
 use Rattle.holder_lines.specs.Sizes.{most_records, record_line, holders_bytes}
 use Rattle.holder_lines.specs.Text.{shelf_text, shelves_text, line_text, lines_text, wells, ills, holders_text}
 use Rattle.holder_lines.proofs.Passes.{all_counted}
@@ -29,13 +28,12 @@ unfolding shelves_text
 shelves_few w zero l = omega arith
 shelves_few w (suc n) l = rw length-append (omega (arith, shelves_few w n (omega arith), shelf_few w n (omega arith)))
 
-line_few : (n : ℕ) (said : Storage) → n ≤ most_records → length (line_text n said) ≤ record_line
-line_few n (Held shelves) l =
+line_few : (n : ℕ) (said : Option ℕ) → n ≤ most_records → length (line_text n said) ≤ record_line
+line_few n (Some shelves) l =
     simp length-append (omega (arith, few_digits n 2 (omega arith), shelves_few shelves most_entities (omega arith)))
-line_few n Ill l = simp length-append (omega (arith, few_digits n 2 (omega arith)))
-line_few n (Refused number place) l = omega arith
+line_few n None l = simp length-append (omega (arith, few_digits n 2 (omega arith)))
 
-module _ (said : ℕ → Storage) where
+module _ (said : ℕ → Option ℕ) where
   lines_few : (n : ℕ) → n ≤ most_records → length (lines_text said n) ≤ n * record_line
   unfolding lines_text
   lines_few zero l = omega arith

@@ -1,4 +1,5 @@
 -- How the text of all records is written: shelf by shelf, line by line, and then the last line; and how many records are counted.
+use Rattle.std.specs.Prelude.{Option, Some, None}
 use Prim.Native.Nat.{ℕ, zero, suc, ◌+◌, ◌-◌, ◌≤◌}
 use native.Mathlib.Omega.{arith}
 use native.Mathlib.Numerals.{add-one}
@@ -12,8 +13,6 @@ use Rattle.text.specs.Decimal.{decimal}
 use Rattle.text.specs.Written.{Wrote}
 use Rattle.text.proofs.Written.{wrote_none, wrote_more}
 use Rattle.lines.specs.Text.{end_text}
-use Rattle.storage.specs.declared.Storage.{Storage}
-use Rattle.storage.specs.declared.Storage.TheVariants.{Held, Ill, Refused}
 use Rattle.holder_lines.specs.Text.{shelf_text, shelves_text, line_text, well_of, ill_of, lines_text, wells, ills, holders_text}
 use Rattle.holder_lines.specs.Passing.{Passed}
 
@@ -38,40 +37,33 @@ shelves_none w before at = wrote_none before at
 
 -- ---- the line of a record
 
-module _ (n : ℕ) (said : Storage) {before : List ℕ} {at : ℕ} where
-  pub line_well : (shelves : ℕ) → said ≡ Held shelves → {one two three after : List ℕ} {numbered well held last : ℕ}
+module _ (n : ℕ) (said : Option ℕ) {before : List ℕ} {at : ℕ} where
+  pub line_well : (shelves : ℕ) → said ≡ Some shelves → {one two three after : List ℕ} {numbered well held last : ℕ}
       → Wrote before at (decimal n) one numbered → Wrote one numbered (ascii " WELL") two well
       → Wrote two well (shelves_text shelves most_entities) three held → Wrote three held newline after last
       → Wrote before at (line_text n said) after last
   line_well shelves e a b c d = rw e (wrote_more (wrote_more (wrote_more a b) c) d)
 
-  pub line_ill : said ≡ Ill → {one after : List ℕ} {numbered last : ℕ} → Wrote before at (decimal n) one numbered
+  pub line_ill : said ≡ None → {one after : List ℕ} {numbered last : ℕ} → Wrote before at (decimal n) one numbered
       → Wrote one numbered (ascii " ILL\n") after last → Wrote before at (line_text n said) after last
   line_ill e a b = rw e (wrote_more a b)
 
-  pub line_none : (number place : ℕ) → said ≡ Refused number place → Wrote before at (line_text n said) before at
-  line_none number place e = rw e (wrote_none before at)
-
-pub well_held : (said : Storage) (shelves : ℕ) → said ≡ Held shelves → 1 ≡ well_of said
+pub well_held : (said : Option ℕ) (shelves : ℕ) → said ≡ Some shelves → 1 ≡ well_of said
 well_held said shelves e = rw e
 
-pub well_ill : (said : Storage) → said ≡ Ill → 0 ≡ well_of said
+pub well_ill : (said : Option ℕ) → said ≡ None → 0 ≡ well_of said
 well_ill said e = rw e
-
-pub well_none : (said : Storage) (number place : ℕ) → said ≡ Refused number place → 0 ≡ well_of said
-well_none said number place e = rw e
 
 -- ---- all lines
 
-one_kind : (said : Storage) → well_of said + ill_of said ≡ 1
-one_kind (Held shelves) = refl
-one_kind Ill = refl
-one_kind (Refused number place) = refl
+one_kind : (said : Option ℕ) → well_of said + ill_of said ≡ 1
+one_kind (Some shelves) = refl
+one_kind None = refl
 
-pub few_well : (said : Storage) → well_of said ≤ 1
+pub few_well : (said : Option ℕ) → well_of said ≤ 1
 few_well said = omega (arith, one_kind said)
 
-module _ (said : ℕ → Storage) where
+module _ (said : ℕ → Option ℕ) where
   -- each record is counted once
   pub all_counted : (n : ℕ) → wells said n + ills said n ≡ n
   unfolding wells ills
@@ -86,7 +78,7 @@ module _ (said : ℕ → Storage) where
     pub passed_few : Passed said i before now next well → well ≤ i
     passed_few p = omega (arith, p.counted, all_counted i)
 
-    pub passed_more : {after : List ℕ} {last one : ℕ} (answer : Storage) → answer ≡ said (i + 1) → Passed said i before now next well
+    pub passed_more : {after : List ℕ} {last one : ℕ} (answer : Option ℕ) → answer ≡ said (i + 1) → Passed said i before now next well
         → Wrote now next (line_text (i + 1) answer) after last → one ≡ well_of answer → Passed said (i + 1) before after last (well + one)
     unfolding lines_text wells
     passed_more {after} {last} {one} answer e p w o =

@@ -6,8 +6,8 @@ ghost use Rattle.bundle.specs.Rows.{Accepts};
 ghost use Rattle.holder_lines.specs.Promise.{HoldersPromise};
 
 use crate::whole::write_lines;
-use bundle::read::{Reading, Sizes, read};
-use lists::Listed;
+use base::refusal::{Cause, Refusal};
+use bundle::read::{Sizes, read};
 use sheet::right;
 use words::table::Table;
 
@@ -33,31 +33,28 @@ impl Room {
 }
 
 // The text of an accepted bundle, or 15, or 8.
-fn list_accepted(bundle: &[u8], sheet: &[u8], sizes: Sizes, text: &mut [u8]) -> Listed
+fn list_accepted(
+    bundle: &[u8],
+    sheet: &[u8],
+    sizes: Sizes,
+    text: &mut [u8],
+) -> Result<usize, Refusal<u16>>
     requires { Accepts bundle.now sizes }
     ensures { HoldersPromise bundle.now sheet.now text.old text.new result }
 {
     if !right(sheet, sizes.names) {
-        return Listed::Refused {
-            number: 15,
-            place: 0,
-        };
+        return Err(Cause::Sheet.at(0));
     }
     if text.len() < Room::BYTES {
-        return Listed::Refused {
-            number: 8,
-            place: 0,
-        };
+        return Err(Cause::Memory.at(0));
     }
-    Listed::Length(write_lines(bundle, sheet, sizes.records, text))
+    Ok(write_lines(bundle, sheet, sizes.records, text))
 }
 
 // What is said of every record, in all lent bytes.
-pub fn list(bundle: &[u8], sheet: &[u8], text: &mut [u8]) -> Listed
+pub fn list(bundle: &[u8], sheet: &[u8], text: &mut [u8]) -> Result<usize, Refusal<u16>>
     ensures { HoldersPromise bundle.now sheet.now text.old text.new result }
 {
-    match read(bundle) {
-        Reading::Accepted(sizes) => list_accepted(bundle, sheet, sizes, text),
-        Reading::Refused { number, place } => Listed::Refused { number, place },
-    }
+    let sizes = read(bundle)?;
+    list_accepted(bundle, sheet, sizes, text)
 }

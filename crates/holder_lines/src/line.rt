@@ -4,7 +4,6 @@ ghost use Rattle.text.specs.Written.{Wrote};
 ghost use Rattle.words.specs.Sizes.{most_entities};
 ghost use Rattle.holder_lines.specs.Text.{shelf_text, shelves_text, line_text, well_of};
 
-use storage::Storage;
 use text::{number, put, word};
 use words::table::Table;
 
@@ -32,37 +31,29 @@ fn write_shelves(text: &mut [u8], at: usize, shelves: u32) -> usize
 }
 
 // The line of a record.
-pub(crate) fn write_line(text: &mut [u8], at: usize, n: u16, said: Storage) -> usize
+pub(crate) fn write_line(text: &mut [u8], at: usize, n: u16, said: Option<u32>) -> usize
     ensures { Wrote text.old at (line_text n said) text.new result }
 {
     match said {
-        Storage::Held { shelves } => {
+        Some(shelves) => {
             let numbered = number(text, at, n);
             let well = word(text, numbered, b" WELL");
             let held = write_shelves(text, well, shelves);
             put(text, held, b'\n')
         }
-        Storage::Ill => {
+        None => {
             let numbered = number(text, at, n);
             word(text, numbered, b" ILL\n")
         }
-        Storage::Refused {
-            number: _,
-            place: _,
-        } => at,
     }
 }
 
 // 1 for a record that is structurally well typed, 0 for another.
-pub(crate) fn well_one(said: Storage) -> u16
+pub(crate) fn well_one(said: Option<u32>) -> u16
     ensures { result ≡ well_of said }
 {
     match said {
-        Storage::Held { shelves: _ } => 1,
-        Storage::Ill => 0,
-        Storage::Refused {
-            number: _,
-            place: _,
-        } => 0,
+        Some(_) => 1,
+        None => 0,
     }
 }

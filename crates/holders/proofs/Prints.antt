@@ -1,5 +1,6 @@
 -- The text of an input: it is that of what the text of all records promises; an input that is too long has the line of refusal 1 at 0; and no
 -- input has two texts.
+use Rattle.std.specs.Prelude.{Result, Ok, Err}
 use Prim.Native.Nat.{ℕ, ◌-◌, ◌<◌, ◌≤◌, min}
 use native.Mathlib.Decide.{dec_le}
 use native.Mathlib.Omega.{arith}
@@ -8,6 +9,7 @@ use mathlib.Core.Logic.{inl, inr}
 use mathlib.Core.List.{List, [], ◌∷◌, append-nil}
 use lib.ListN.{length, take, drop, length-drop, length-append}
 use lib.Seq.{take_at, take_all, take-length}
+use Rattle.base.specs.declared.refusal.Refusal.{Refusal}
 use Rattle.base.specs.Refusals.{Row, Clear, refused, passed}
 use Rattle.base.proofs.Refusals.{due_number, one_place_both, zero_place}
 use Rattle.bundle.specs.Layout.{names_of}
@@ -18,8 +20,6 @@ use Rattle.answers.specs.Line.{refusal_line}
 use Rattle.said.specs.Line.{refuses}
 use Rattle.said.proofs.Line.{line_refused, line_given, one_line}
 use Rattle.asked.proofs.Input.{bundle_part}
-use Rattle.lists.specs.declared.Listed.{Listed}
-use Rattle.lists.specs.declared.Listed.TheVariants.{Length, Refused}
 use Rattle.lists.specs.Promise.{short_row}
 use Rattle.listed.specs.declared.Listing.{Listing}
 use Rattle.listed.specs.Listing.{ListsAllowed, Tells}
@@ -30,7 +30,7 @@ use Rattle.holders.specs.Input.{sheet_bytes, longest_input, sheet_of, bundle_of}
 use Rattle.holders.specs.Prints.{printed_rows, Prints}
 
 -- the part before the start is the sheet, and the part from there on the bundle
-pub asked : (input : List ℕ) (start : ℕ) (before after : List ℕ) (o : Listed) → start ≡ min sheet_bytes (length input)
+pub asked : (input : List ℕ) (start : ℕ) (before after : List ℕ) (o : Result ℕ (Refusal ℕ)) → start ≡ min sheet_bytes (length input)
     → HoldersPromise (take (length input - start) (drop start input)) (take start input) before after o
     → HoldersPromise (bundle_of input) (sheet_of input) before after o
 asked input start before after o s p =
@@ -55,13 +55,13 @@ module _ (input : List ℕ) where
     no_short : Clear short
     no_short = ((λ (_, (_, l)). omega arith), tt)
 
-    left_front : {after : List ℕ} (n : ℕ) (g : HoldersLeft (bundle_of input) (sheet_of input) before after (Length n)) → take n after ≡ g.shown
+    left_front : {after : List ℕ} (n : ℕ) (g : HoldersLeft (bundle_of input) (sheet_of input) before after (Ok n)) → take n after ≡ g.shown
     left_front n g = ap (take n) g.written ∙ take_at g.shown _ n (sym g.length_said)
 
-    pub prints_list : (after : List ℕ) (o : Listed) (l : Listing) → HoldersPromise (bundle_of input) (sheet_of input) before after o → Tells o l
+    pub prints_list : (after : List ℕ) (o : Result ℕ (Refusal ℕ)) (l : Listing) → HoldersPromise (bundle_of input) (sheet_of input) before after o → Tells o l
         → ListsAllowed after l (Prints input)
-    prints_list after (Length n) l (refused d k) t = absurd (omega (arith, due_number (holders_rows (bundle_of input) (sheet_of input) before) (holders_numbers (bundle_of input) (sheet_of input) before) 0 0 d))
-    prints_list after (Length n) l (passed _ _ c g) (size, line, problem) =
+    prints_list after (Ok n) l (refused d k) t = absurd (omega (arith, due_number (holders_rows (bundle_of input) (sheet_of input) before) (holders_numbers (bundle_of input) (sheet_of input) before) 0 0 d))
+    prints_list after (Ok n) l (passed _ _ c g) (size, line, problem) =
         record {
           inside = rw (size, g.written, length-append) (omega (arith, g.length_said));
           line = [];
@@ -70,14 +70,14 @@ module _ (input : List ℕ) where
               rw (size, append-nil (take n after), left_front n g)
               (line_given (printed_rows input) (HoldersGiven (bundle_of input) (sheet_of input)) short no_short c g.given);
         }
-    prints_list after (Refused n p) l (refused d k) (size, line, problem) =
+    prints_list after (Err why) l (refused d k) (size, line, problem) =
         record {
           inside = omega arith;
-          line = refusal_line n p;
+          line = refusal_line why.number why.place;
           holds = line;
-          allowed = rw size (line_refused (printed_rows input) (HoldersGiven (bundle_of input) (sheet_of input)) short no_short n p d);
+          allowed = rw size (line_refused (printed_rows input) (HoldersGiven (bundle_of input) (sheet_of input)) short no_short why.number why.place d);
         }
-    prints_list after (Refused n p) l (passed _ _ c g) t =
+    prints_list after (Err why) l (passed _ _ c g) t =
         absurd (omega (arith, some_text (bundle_of input) (sheet_of input) g.shown g.given, g.length_said))
 
   pub prints_longer : longest_input < length input → Prints input (refusal_line 1 0)

@@ -14,11 +14,11 @@ ghost use Rattle.holders.specs.Prints.{Prints, unreadable};
 
 use answers::line::{Text, empty, message, refusal};
 use asked::bundle_start;
+use base::refusal::Refusal;
 use block::Block;
 use holder_lines::Room;
 use input::fill;
 use listed::{ListProgram, Listing, listing_of, say, write};
-use lists::Listed;
 use std::io::{Read, Write};
 
 // The memory of the program.
@@ -31,7 +31,7 @@ impl Memory {
 }
 
 // The text for the bytes of a sheet and a bundle.
-fn list(input: &[u8], text: &mut [u8]) -> Listed
+fn list(input: &[u8], text: &mut [u8]) -> Result<usize, Refusal<u16>>
     ensures { HoldersPromise (bundle_of input.now) (sheet_of input.now) text.old text.new result }
 {
     let start = bundle_start(Block::SIZE, input.len());

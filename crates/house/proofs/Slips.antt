@@ -1,5 +1,6 @@
 -- The checker's answers to the paper's slip for P1 and to its variants are those that the paper gives: one equation computed over the list.
 -- P1's bundle is read once, in Cases; what is computed here is over the credentials that it holds.
+use Rattle.std.specs.Prelude.{ℕ, Result}
 use mathlib.Core.Path.{◌≡◌, refl, sym}
 use mathlib.Core.List.Memᴰ
 use mathlib.Core.List.{List, map, zip_with}
@@ -8,11 +9,11 @@ use Rattle.rt0.specs.Book.{book_of}
 use Rattle.rt0.specs.Slip.{Line}
 use Rattle.rt0.specs.Bytes.{lines_of, bytes_of}
 use Rattle.rt0.specs.House.{Archive, Nina, signer, house, cases}
+use Rattle.base.specs.declared.refusal.Refusal.{Refusal}
 use Rattle.base.specs.Lowest.{lowest}
 use Rattle.bundle.specs.declared.read.Sizes.{Sizes}
 use Rattle.bundle.specs.Rows.{Accepts}
 use Rattle.bundle.specs.Held.{held as held_in}
-use Rattle.checker.specs.declared.check.Checked.{Checked}
 use Rattle.checker.specs.Premise.{premise_wrong, line_wrong}
 use Rattle.checker.specs.Checking.{last_tests, line_tests, slip_tests, check_by}
 use Rattle.checker.proofs.Refusals.{slip_answered}
@@ -31,7 +32,7 @@ unfolding cases_on_bytes zip_with bundles cases house
 first_read = let right = cases_right _ (Memᴰ.head refl) in (right.asked.accepts, right.held)
 
 -- so what the checker answers is what it answers over these
-answer : List Line → Checked
+answer : List Line → Result ℕ (Refusal ℕ)
 answer lines = check_by (bytes_of lines) (slip_tests (book_of house) (Archive · signer) Nina (bytes_of lines))
 
 all_as_stated : map (λ s. answer s.lines) slips ≡ map (λ s. s.answer) slips

@@ -1,5 +1,6 @@
 -- One more line of a slip, for a record that gives a member from words whose facts all have lines: the line is right, there is room
 -- for it, and with its entry in the index the lines are a right slip again.
+use Rattle.std.specs.Prelude.{Option}
 use Prim.Native.Nat.{ℕ, suc, ◌+◌, ◌-◌, ◌*◌, ◌<◌, ◌≤◌}
 use native.Mathlib.Nat.{le_refl}
 use native.Mathlib.Omega.{arith}
@@ -206,7 +207,7 @@ module _ {bytes ws index slip : List ℕ} {n : ℕ} {g : Given} (w : Writing byt
     pub line_room : n < slip_lines
     line_room = room {D = x + 1} (omega arith) (rw same (bit_one g.word x given)) (rw same new)
 
-    pub line_more : {slip' : List ℕ} {k : Record} → k ≡ record_of bytes g.number
+    pub line_more : {slip' : List ℕ} {k : Option Record} → k ≡ record_of bytes g.number
         → slip' ≡ with_line slip n (line_by ws index k g.number (x + 1))
         → AtMostOneMore bytes index slip n (g.first + x) (bit g.word x) (set index (g.first + x) (n + 1)) slip' (n + 1)
     line_more e f =

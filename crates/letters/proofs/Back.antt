@@ -1,4 +1,5 @@
 -- Reading what was written gives the records back, and writing what was read gives the text back, byte for byte.
+use Rattle.std.specs.Prelude.{Result, Ok}
 use Prim.Native.Nat.{ℕ, ◌*◌, ◌<◌, ◌≤◌}
 use native.Mathlib.Omega.{arith}
 use mathlib.Core.Path.{◌≡◌, refl, ap, sym, subst, ◌∙◌}
@@ -7,11 +8,10 @@ use mathlib.Core.List.{List, [], append-nil}
 use lib.ListN.{length, take, drop}
 use lib.Seq.{take_at}
 use Rattle.rt0.specs.Credential.{Credential, AllValid}
+use Rattle.base.specs.declared.refusal.Refusal.{Refusal}
 use Rattle.base.specs.Refusals.{Clear, refused, passed}
 use Rattle.base.proofs.Flags.{clash_flag}
 use Rattle.base.proofs.Refusals.{due_clear, due_number, clear_both}
-use Rattle.writer.specs.declared.answer.Wrote.{Wrote}
-use Rattle.writer.specs.declared.answer.Wrote.TheVariants.{Length}
 use Rattle.writer.specs.Rows.{list_rows}
 use Rattle.writer.proofs.Tables.{list_clear}
 use Rattle.spelling.specs.Line.{RightLine}
@@ -40,7 +40,7 @@ module _ (E R : ℕ) (range : out_of_range E R ≡ false) (cs : List Credential)
       right k l = subst (λ (t : List ℕ). RightLine E R (line_at t k)) (append-nil (text_of cs)) (front_right E R cs [] v k l)
 
   -- it gives their records
-  pub reads_records : (before after : List ℕ) (r : Wrote) → length cs ≤ 240 → 12 * length cs ≤ length before → Reads E R (text_of cs) before r after
+  pub reads_records : (before after : List ℕ) (r : Result ℕ (Refusal ℕ)) → length cs ≤ 240 → 12 * length cs ≤ length before → Reads E R (text_of cs) before r after
       → Stored (records_of cs) before r after
   reads_records before after r few room (refused d _) = absurd (due_clear (read_rows E R (text_of cs) (length before)) _ _ (read_clear (length before) few room) d)
   reads_records before after r few room (passed _ _ _ (letter, stored)) =
@@ -60,7 +60,7 @@ module _ (E R : ℕ) (range : out_of_range E R ≡ false) (cs : List Credential)
         ),
       )
 
-  pub writes_text : (before after : List ℕ) (r : Wrote) → length cs ≤ 240 → length (text_of cs) ≤ length before → Writes E R (records_of cs) before r after
+  pub writes_text : (before after : List ℕ) (r : Result ℕ (Refusal ℕ)) → length cs ≤ 240 → length (text_of cs) ≤ length before → Writes E R (records_of cs) before r after
       → Stored (text_of cs) before r after
   writes_text before after r few room (refused d _) =
       absurd (due_clear (write_rows E R (records_of cs) (length before)) _ _ (write_clear (length before) few room) d)
@@ -68,14 +68,14 @@ module _ (E R : ℕ) (range : out_of_range E R ≡ false) (cs : List Credential)
       subst (λ (ds : List Credential). Stored (text_of ds) before r after) (credentials_back E R cs v) stored
 
 -- what stands at the front of a buffer
-front_is : (bytes before after : List ℕ) (n : ℕ) → Stored bytes before (Length n) after → take n after ≡ bytes
+front_is : (bytes before after : List ℕ) (n : ℕ) → Stored bytes before (Ok n) after → take n after ≡ bytes
 front_is bytes before after n (e, f) =
     let size : n ≡ length bytes = cc in
     rw (f, size) (take_at bytes (drop (length bytes) before) (length bytes) refl)
 
 -- reading what was written gives the records back
-pub written_read : (E R : ℕ) (list before after : List ℕ) (n : ℕ) → Writes E R list before (Length n) after
-    → (room stored : List ℕ) (r : Wrote) → length list ≤ length room → Reads E R (take n after) room r stored → Stored list room r stored
+pub written_read : (E R : ℕ) (list before after : List ℕ) (n : ℕ) → Writes E R list before (Ok n) after
+    → (room stored : List ℕ) (r : Result ℕ (Refusal ℕ)) → length list ≤ length room → Reads E R (take n after) room r stored → Stored list room r stored
 written_read E R list before after n (refused d _) room stored r enough h =
     absurd (omega (arith, due_number (write_rows E R list (length before)) (write_numbers E R list (length before)) _ _ d))
 written_read E R list before after n (passed _ _ clear said) room stored r enough h =
@@ -89,8 +89,8 @@ written_read E R list before after n (passed _ _ clear said) room stored r enoug
     (reads_records E R ready.within cs v room stored r (omega (arith, ready.few)) (omega arith) read)
 
 -- writing what was read gives the text back
-pub read_written : (E R : ℕ) (text before after : List ℕ) (n : ℕ) → Reads E R text before (Length n) after
-    → (room stored : List ℕ) (r : Wrote) → length text ≤ length room → Writes E R (take n after) room r stored → Stored text room r stored
+pub read_written : (E R : ℕ) (text before after : List ℕ) (n : ℕ) → Reads E R text before (Ok n) after
+    → (room stored : List ℕ) (r : Result ℕ (Refusal ℕ)) → length text ≤ length room → Writes E R (take n after) room r stored → Stored text room r stored
 read_written E R text before after n (refused d _) room stored r enough h =
     absurd (omega (arith, due_number (read_rows E R text (length before)) (read_numbers E R text (length before)) _ _ d))
 read_written E R text before after n (passed _ _ clear (letter, said)) room stored r enough h =

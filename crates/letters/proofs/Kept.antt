@@ -1,17 +1,18 @@
 -- From what was judged and what was stored to what reading and writing promise.
+use Rattle.std.specs.Prelude.{Result, Ok, Err}
 use Prim.Native.Nat.{ℕ, ◌*◌, ◌<◌}
 use native.Mathlib.Omega.{arith}
 use native.Mathlib.Decide.{dec_lt}
 use mathlib.Core.Path.{◌≡◌, refl, ap, subst, ◌∙◌}
 use mathlib.Core.List.{List}
 use lib.ListN.{length}
+use Rattle.base.specs.declared.refusal.Refusal.{Refusal}
+use Rattle.base.specs.Refused.{refusal_at, number_of}
 use Rattle.base.specs.Refusals.{AllNumbered, AllOnePlace, refused, passed}
 use Rattle.base.proofs.Refusals.{due_number, at_place, zero_place, from_one_place, one_place_both, numbered_both}
 use Rattle.text.specs.Written.{Wrote as WroteFrom}
 use Rattle.text.proofs.Written.{wrote_text}
-use Rattle.writer.specs.declared.answer.Wrote.{Wrote}
-use Rattle.writer.specs.declared.answer.Wrote.TheVariants.{Length, Refused}
-use Rattle.writer.specs.Rows.{number_of, list_rows}
+use Rattle.writer.specs.Rows.{list_rows}
 use Rattle.writer.proofs.Tables.{list_places, list_numbers}
 use Rattle.letters.specs.Lines.{text_of, records_of, credentials_in, lines_of, line_count, candidates_of}
 use Rattle.letters.specs.Rows.{FirstWrong, read_rows, text_rows, write_rows}
@@ -22,7 +23,7 @@ use Rattle.letters.proofs.Texts.{text_count, records_size}
 use Rattle.letters.proofs.Filling.{candidates_are}
 
 -- no answer is both
-pub no_both : {A : Type 0} (r : Wrote) (n number place : ℕ) → r ≡ Length n → r ≡ Refused number place → A
+pub no_both : {A : Type 0} (r : Result ℕ (Refusal ℕ)) (n number place : ℕ) → r ≡ Ok n → r ≡ Err (refusal_at number place) → A
 no_both r n number place e f = let z : ◌≡◌ {A = ℕ} 0 1 = cc in absurd (omega arith)
 
 module _ (E R : ℕ) (text : List ℕ) (size : ℕ) where
@@ -49,15 +50,15 @@ module _ (E R : ℕ) (list : List ℕ) (size : ℕ) where
 
 -- Reading.
 
-module _ (E R : ℕ) (text before : List ℕ) (r : Wrote) (h : JudgedText (read_rows E R text (length before)) E R text r) where
-  pub read_handed : (number place : ℕ) → r ≡ Refused number place → Reads E R text before r before
+module _ (E R : ℕ) (text before : List ℕ) (r : Result ℕ (Refusal ℕ)) (h : JudgedText (read_rows E R text (length before)) E R text r) where
+  pub read_handed : (number place : ℕ) → r ≡ Err (refusal_at number place) → Reads E R text before r before
   read_handed number place e = by h
     where
       by : JudgedText (read_rows E R text (length before)) E R text r → Reads E R text before r before
       by (refused d _) = refused d refl
       by (passed _ _ _ (f, _)) = no_both r _ number place f e
 
-  pub read_filled : (n : ℕ) → r ≡ Length n → (after : List ℕ) (place : ℕ) → WroteFrom before 0 (candidates_of (lines_of text)) after place
+  pub read_filled : (n : ℕ) → r ≡ Ok n → (after : List ℕ) (place : ℕ) → WroteFrom before 0 (candidates_of (lines_of text)) after place
       → Reads E R text before r after
   read_filled n e after place w = by h
     where
@@ -73,19 +74,19 @@ module _ (E R : ℕ) (text before : List ℕ) (r : Wrote) (h : JudgedText (read_
           ap (λ (t : List ℕ). candidates_of (lines_of t)) letter.text_is ∙ candidates_are E R a b cs letter.valid in
           let (stored, _) = wrote_text (subst (λ (l : List ℕ). WroteFrom before 0 l after place) bytes w) (omega (arith, ready.room)) in
           let same : 12 * line_count text ≡ length (records_of cs) = omega arith in
-          passed z p clear (letter, (f ∙ ap Length same, stored))
+          passed z p clear (letter, (f ∙ ap Ok same, stored))
 
 -- Writing.
 
-module _ (E R : ℕ) (list before : List ℕ) (r : Wrote) (h : Says (write_rows E R list (length before)) r (length (text_of (credentials_in list)))) where
-  pub write_handed : (number place : ℕ) → r ≡ Refused number place → Writes E R list before r before
+module _ (E R : ℕ) (list before : List ℕ) (r : Result ℕ (Refusal ℕ)) (h : Says (write_rows E R list (length before)) r (length (text_of (credentials_in list)))) where
+  pub write_handed : (number place : ℕ) → r ≡ Err (refusal_at number place) → Writes E R list before r before
   write_handed number place e = by h
     where
       by : Says (write_rows E R list (length before)) r (length (text_of (credentials_in list))) → Writes E R list before r before
       by (refused d _) = refused d refl
       by (passed _ _ _ f) = no_both r _ number place f e
 
-  pub write_filled : (n : ℕ) → r ≡ Length n → (after : List ℕ) (place : ℕ) → WroteFrom before 0 (text_of (credentials_in list)) after place
+  pub write_filled : (n : ℕ) → r ≡ Ok n → (after : List ℕ) (place : ℕ) → WroteFrom before 0 (text_of (credentials_in list)) after place
       → Writes E R list before r after
   write_filled n e after place w = by h
     where

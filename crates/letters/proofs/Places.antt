@@ -1,5 +1,6 @@
 -- A refusal of letters has a number, and its place is bounded: by 241 for reading, and by the records of the list too for writing. What was
 -- written is bounded by 240 records and their lines.
+use Rattle.std.specs.Prelude.{Ok, Err}
 use Prim.Native.Nat.{ℕ, ◌+◌, ◌*◌, ◌<◌, ◌≤◌}
 use native.Mathlib.Omega.{arith}
 use mathlib.Core.Path.{◌≡◌, refl, ap, ◌∙◌}
@@ -8,12 +9,12 @@ use mathlib.Core.List.Memᴰ
 use mathlib.Core.List.{List, [], ◌∷◌}
 use lib.ListN.{length, length-append}
 use Rattle.rt0.specs.Credential.{Credential, AllValid}
+use Rattle.base.specs.Refused.{refusal_at}
 use Rattle.base.specs.Refusals.{FromOne, Due, refused, passed}
 use Rattle.base.proofs.Refusals.{due_number}
 use Rattle.records.specs.Bytes.{credential_in}
 use Rattle.content.specs.Content.{listed, whole_records}
 use Rattle.content.proofs.Tabulated.{length_tabulate}
-use Rattle.writer.specs.declared.answer.Wrote.TheVariants.{Length, Refused}
 use Rattle.writer.specs.Rows.{LowestListed}
 use Rattle.spelling.specs.Line.{line_of}
 use Rattle.spelling.proofs.Lengths.{line_short}
@@ -42,12 +43,12 @@ module _ (E R : ℕ) (text before after : List ℕ) where
   read_due number place (inr (_, inr (_, inr (_, inl (_, (z, _)))))) = omega arith
   read_due number place (inr (_, inr (_, inr (_, inr (_, none))))) = absurd none
 
-  pub read_place : (number place : ℕ) → Reads E R text before (Refused number place) after → (1 ≤ number) × (place ≤ 241)
+  pub read_place : (number place : ℕ) → Reads E R text before (Err (refusal_at number place)) after → (1 ≤ number) × (place ≤ 241)
   read_place number place (refused d _) =
       (due_number (read_rows E R text (length before)) (read_numbers E R text (length before)) number place d, read_due number place d)
-  read_place number place (passed _ _ _ (_, (e, _))) = no_both (Refused number place) _ number place e refl
+  read_place number place (passed _ _ _ (_, (e, _))) = no_both (Err (refusal_at number place)) _ number place e refl
 
-  pub read_length : (n : ℕ) → Reads E R text before (Length n) after → n ≤ 2880
+  pub read_length : (n : ℕ) → Reads E R text before (Ok n) after → n ≤ 2880
   read_length n (refused d _) = absurd (omega (arith, due_number (read_rows E R text (length before)) (read_numbers E R text (length before)) _ _ d))
   read_length n (passed _ _ clear (letter, (e, _))) =
       let cs = letter.credentials in
@@ -71,12 +72,12 @@ module _ (E R : ℕ) (list before after : List ℕ) where
   write_due number place (inr (_, inr (_, inr (_, inr (_, inr (_, inr (_, inr (_, inr (_, inl (_, (z, _))))))))))) = omega arith
   write_due number place (inr (_, inr (_, inr (_, inr (_, inr (_, inr (_, inr (_, inr (_, inr (_, none)))))))))) = absurd none
 
-  pub write_place : (number place : ℕ) → Writes E R list before (Refused number place) after → (1 ≤ number) × (place ≤ 241 + whole_records list)
+  pub write_place : (number place : ℕ) → Writes E R list before (Err (refusal_at number place)) after → (1 ≤ number) × (place ≤ 241 + whole_records list)
   write_place number place (refused d _) =
       (due_number (write_rows E R list (length before)) (write_numbers E R list (length before)) number place d, write_due number place d)
-  write_place number place (passed _ _ _ (e, _)) = no_both (Refused number place) _ number place e refl
+  write_place number place (passed _ _ _ (e, _)) = no_both (Err (refusal_at number place)) _ number place e refl
 
-  pub write_length : (n : ℕ) → Writes E R list before (Length n) after → n ≤ 9360
+  pub write_length : (n : ℕ) → Writes E R list before (Ok n) after → n ≤ 9360
   write_length n (refused d _) = absurd (omega (arith, due_number (write_rows E R list (length before)) (write_numbers E R list (length before)) _ _ d))
   write_length n (passed _ _ clear (said, _)) =
       let ready : WriteClear E R list (length before) = clear_write E R list (length before) clear in

@@ -1,4 +1,5 @@
 -- A text judged: E and R first, then line by line. What is known of the lines passed, how it goes on at the next, and the three ways in which it ends.
+use Rattle.std.specs.Prelude.{Result, Ok, Err}
 use Prim.Native.Nat.{ℕ, ◌+◌, ◌*◌, ◌<◌, ◌≤◌}
 use native.Mathlib.Omega.{arith}
 use native.Mathlib.Numerals.{add-one}
@@ -8,14 +9,14 @@ use mathlib.Core.Logic.{inl, inr}
 use mathlib.Core.List.{List, [], ◌∷◌, ◌++◌, append_assoc, append-nil}
 use lib.ListN.{length, take, drop, length-append, take-append-drop}
 use Rattle.rt0.specs.Credential.{Credential, AllValid}
+use Rattle.base.specs.declared.refusal.Refusal.{Refusal}
+use Rattle.base.specs.Refused.{refusal_at}
 use Rattle.base.specs.Range.{outside}
 use Rattle.base.specs.Refusals.{AtPlace, FromOne, refused, passed}
 use Rattle.base.proofs.Flags.{Tells, or_tells, outside_tells, or_false, inside, clash_flag}
 use Rattle.base.proofs.Judging.{judged_more}
 use Rattle.bundle.specs.Edition.{most_names}
 use Rattle.content.specs.Content.{most_entities}
-use Rattle.writer.specs.declared.answer.Wrote.{Wrote}
-use Rattle.writer.specs.declared.answer.Wrote.TheVariants.{Length, Refused}
 use Rattle.spelling.specs.Line.{line_of, RightLine}
 use Rattle.letters.specs.Lines.{text_of, line_count, line_at, first_length}
 use Rattle.letters.specs.Rows.{OutOfRange, out_of_range, FirstWrong, room_rows, line_rows, read_rows}
@@ -74,18 +75,18 @@ module _ (E R : ℕ) (text : List ℕ) where
 
       -- it is wrong
       pub text_wrong : (size : ℕ) → lines < 240 → (RightLine E R (line_at text lines) → ⊥)
-          → JudgedText (line_rows E R text size) E R text (Refused 14 (lines + 1))
+          → JudgedText (line_rows E R text size) E R text (Err (refusal_at 14 (lines + 1)))
       text_wrong size among wrong =
           let first : FirstWrong E R text lines = record { there = more; among = among; wrong = wrong; before = before_right } in
           refused (inl (refl, (lines, add-one lines, first))) tt
 
       -- it follows line 240
-      pub text_many : (size : ℕ) → lines ≡ 240 → JudgedText (line_rows E R text size) E R text (Refused 12 241)
+      pub text_many : (size : ℕ) → lines ≡ 240 → JudgedText (line_rows E R text size) E R text (Err (refusal_at 12 241))
       text_many size e =
           refused (inr (λ (_, (k, _, first)). first.wrong (before_right k (omega (arith, first.among))), inl (refl, (refl, omega (arith, more))))) tt
 
     -- there is none
-    pub text_whole : (size : ℕ) → lines ≡ line_count text → lines ≤ 240 → (r : Wrote) → Says (room_rows lines size) r (12 * lines)
+    pub text_whole : (size : ℕ) → lines ≡ line_count text → lines ≤ 240 → (r : Result ℕ (Refusal ℕ)) → Says (room_rows lines size) r (12 * lines)
         → JudgedText (line_rows E R text size) E R text r
     text_whole size all few r says = by (subst (λ (n : ℕ). Says (room_rows n size) r (12 * n)) all says)
       where
@@ -111,10 +112,10 @@ module _ (E R : ℕ) (text : List ℕ) where
         by (passed z p c g) = passed z p (right, (not_many, c)) (g, letter)
 
 -- whether there is room
-pub room_short : (lines size : ℕ) → size < 12 * lines → Says (room_rows lines size) (Refused 13 0) (12 * lines)
+pub room_short : (lines size : ℕ) → size < 12 * lines → Says (room_rows lines size) (Err (refusal_at 13 0)) (12 * lines)
 room_short lines size l = refused (inl (refl, (refl, l))) tt
 
-pub room_enough : (lines size : ℕ) → 12 * lines ≤ size → Says (room_rows lines size) (Length (12 * lines)) (12 * lines)
+pub room_enough : (lines size : ℕ) → 12 * lines ≤ size → Says (room_rows lines size) (Ok (12 * lines)) (12 * lines)
 room_enough lines size l = passed refl refl (λ (_, (_, short)). omega arith, tt) refl
 
 -- E and R: out of range exactly if the test says so; in range, they have one digit or two
@@ -127,8 +128,8 @@ in_range E R h =
     (omega (arith, inside most_entities E e), omega (arith, inside most_names R r))
 
 module _ (E R : ℕ) (text : List ℕ) (size : ℕ) where
-  pub text_range : out_of_range E R ≡ true → JudgedText (read_rows E R text size) E R text (Refused 3 0)
+  pub text_range : out_of_range E R ≡ true → JudgedText (read_rows E R text size) E R text (Err (refusal_at 3 0))
   text_range h = refused (inl (refl, (refl, (range_tells E R).0 h))) tt
 
-  pub text_in_range : out_of_range E R ≡ false → (r : Wrote) → JudgedText (line_rows E R text size) E R text r → JudgedText (read_rows E R text size) E R text r
+  pub text_in_range : out_of_range E R ≡ false → (r : Result ℕ (Refusal ℕ)) → JudgedText (line_rows E R text size) E R text r → JudgedText (read_rows E R text size) E R text r
   text_in_range h r j = judged_more _ _ (λ (_, (_, out)). clash_flag ((range_tells E R).1 out) h) j

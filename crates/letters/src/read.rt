@@ -6,48 +6,44 @@ ghost use Rattle.letters.specs.Rows.{line_rows, room_rows, read_rows};
 ghost use Rattle.letters.specs.Promise.{Says, JudgedText, Reads};
 
 use crate::out_of_range;
+use base::refusal::{Cause, Refusal};
 use block::Block;
 use candidates::find::candidate;
 use candidates::right::right_line;
 use text::word;
-use writer::answer::Wrote;
 use writer::judge::Most;
 
 // Whether there is room for the records of so many lines.
-fn judge_room(lines: usize, size: usize) -> Wrote
+fn judge_room(lines: usize, size: usize) -> Result<usize, Refusal<usize>>
     requires { lines ≤ 240 }
     ensures { Says (room_rows lines size) result (12 * lines) }
 {
     let length = Block::RECORD_SIZE * lines;
     if size < length {
-        Wrote::Refused {
-            number: 13,
-            place: 0,
-        }
+        Err(Cause::Room.at(0))
     } else {
-        Wrote::Length(length)
+        Ok(length)
     }
 }
 
 // The lines of a text, up to the first wrong one or to line 240, and then whether there is room.
-fn judge_lines(entities: usize, names: usize, text: &[u8], size: usize) -> Wrote
+fn judge_lines(
+    entities: usize,
+    names: usize,
+    text: &[u8],
+    size: usize,
+) -> Result<usize, Refusal<usize>>
     requires { (entities < 100) × (names < 100) }
     ensures { JudgedText (line_rows entities names text.now size) entities names text.now result }
 {
     let mut lines: usize = 0;
     for line in text.split_inclusive(|b| *b == b'\n') {
         if lines == Most::RECORDS {
-            return Wrote::Refused {
-                number: 12,
-                place: 241,
-            };
+            return Err(Cause::TooMany.at(241));
         }
         let next = lines + 1;
         if !right_line(entities, names, line) {
-            return Wrote::Refused {
-                number: 14,
-                place: next,
-            };
+            return Err(Cause::Letter.at(next));
         }
         lines = next;
     }
@@ -55,14 +51,16 @@ fn judge_lines(entities: usize, names: usize, text: &[u8], size: usize) -> Wrote
 }
 
 // A text, for a buffer of so many bytes.
-fn judge_text(entities: usize, names: usize, text: &[u8], size: usize) -> Wrote
+fn judge_text(
+    entities: usize,
+    names: usize,
+    text: &[u8],
+    size: usize,
+) -> Result<usize, Refusal<usize>>
     ensures { JudgedText (read_rows entities names text.now size) entities names text.now result }
 {
     if out_of_range(entities, names) {
-        return Wrote::Refused {
-            number: 3,
-            place: 0,
-        };
+        return Err(Cause::Layout.at(0));
     }
     judge_lines(entities, names, text, size)
 }
@@ -78,14 +76,16 @@ fn fill_records(text: &[u8], records: &mut [u8]) -> usize
     place
 }
 
-// Reads a letter into the front of a buffer.
-pub fn read_lines(entities: u8, names: u8, text: &[u8], records: &mut [u8]) -> Wrote
+// Reads a letter into the front of a buffer: the number of bytes of its records.
+pub fn read_lines(
+    entities: u8,
+    names: u8,
+    text: &[u8],
+    records: &mut [u8],
+) -> Result<usize, Refusal<usize>>
     ensures { Reads entities names text.now records.old result records.new }
 {
-    let judged = judge_text(entities as usize, names as usize, text, records.len());
-    let Wrote::Length(_) = judged else {
-        return judged;
-    };
+    let length = judge_text(entities as usize, names as usize, text, records.len())?;
     let _end = fill_records(text, records);
-    judged
+    Ok(length)
 }

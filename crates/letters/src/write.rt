@@ -7,9 +7,9 @@ ghost use Rattle.letters.specs.Rows.{text_rows, write_rows};
 ghost use Rattle.letters.specs.Promise.{Says, Writes};
 
 use crate::out_of_range;
+use base::refusal::{Cause, Refusal};
 use block::Block;
 use spelling::{line_length, put_line};
-use writer::answer::Wrote;
 use writer::judge::{Most, flaw_of};
 
 // The number of bytes of the lines of a list.
@@ -25,49 +25,36 @@ fn text_length(records: &[u8]) -> usize
 }
 
 // Whether a list has too many records, or the buffer is too short for their lines.
-fn judge_room(records: &[u8], size: usize) -> Wrote
+fn judge_room(records: &[u8], size: usize) -> Result<usize, Refusal<usize>>
     requires { ShortLines records.now }
     ensures { Says (text_rows records.now size) result (length_of_list (text_of (credentials_in records.now))) }
 {
     if Most::RECORDS < records.len() / Block::RECORD_SIZE {
-        return Wrote::Refused {
-            number: 12,
-            place: 241,
-        };
+        return Err(Cause::TooMany.at(241));
     }
     let length = text_length(records);
     if size < length {
-        return Wrote::Refused {
-            number: 13,
-            place: 0,
-        };
+        return Err(Cause::Room.at(0));
     }
-    Wrote::Length(length)
+    Ok(length)
 }
 
 // A list of records, for a buffer of so many bytes.
-fn judge_records(entities: usize, names: usize, records: &[u8], size: usize) -> Wrote
+fn judge_records(
+    entities: usize,
+    names: usize,
+    records: &[u8],
+    size: usize,
+) -> Result<usize, Refusal<usize>>
     ensures { Says (write_rows entities names records.now size) result (length_of_list (text_of (credentials_in records.now))) }
 {
     if records.len() % Block::RECORD_SIZE != 0 {
-        return Wrote::Refused {
-            number: 1,
-            place: 0,
-        };
+        return Err(Cause::Length.at(0));
     }
     if out_of_range(entities, names) {
-        return Wrote::Refused {
-            number: 3,
-            place: 0,
-        };
+        return Err(Cause::Layout.at(0));
     }
-    let flaw = flaw_of(entities, names, records);
-    if flaw.number != 0 {
-        return Wrote::Refused {
-            number: flaw.number,
-            place: flaw.place,
-        };
-    }
+    flaw_of(entities, names, records)?;
     judge_room(records, size)
 }
 
@@ -82,14 +69,16 @@ fn fill_text(text: &mut [u8], records: &[u8]) -> usize
     at
 }
 
-// Writes the letter of a list of records at the front of a buffer.
-pub fn write_lines(entities: u8, names: u8, records: &[u8], text: &mut [u8]) -> Wrote
+// Writes the letter of a list of records at the front of a buffer: the number of its bytes.
+pub fn write_lines(
+    entities: u8,
+    names: u8,
+    records: &[u8],
+    text: &mut [u8],
+) -> Result<usize, Refusal<usize>>
     ensures { Writes entities names records.now text.old result text.new }
 {
-    let judged = judge_records(entities as usize, names as usize, records, text.len());
-    let Wrote::Length(_) = judged else {
-        return judged;
-    };
+    let length = judge_records(entities as usize, names as usize, records, text.len())?;
     let _end = fill_text(text, records);
-    judged
+    Ok(length)
 }

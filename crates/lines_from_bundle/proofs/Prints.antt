@@ -1,5 +1,6 @@
 -- The output of an input: it is that of what the reader refuses, or the lines of what it accepts; an input that is longer than any bundle has the
 -- line of refusal 1 at 0; and no input has two.
+use Rattle.std.specs.Prelude.{Result, Err}
 use Prim.Native.Nat.{ℕ, ◌<◌, ◌≤◌}
 use native.Mathlib.Omega.{arith}
 use mathlib.Core.Path.{◌≡◌, refl, ap, sym, subst, ◌∙◌}
@@ -8,10 +9,11 @@ use mathlib.Core.Logic.{inl, inr}
 use mathlib.Core.List.{List}
 use lib.ListN.{length, take, length-append}
 use lib.Seq.{take_at}
+use Rattle.base.specs.declared.refusal.Refusal.{Refusal}
+use Rattle.base.specs.Refused.{refusal_at}
 use Rattle.base.specs.Refusals.{refused, passed}
 use Rattle.base.proofs.Flags.{inside_flag}
 use Rattle.bundle.specs.declared.read.Sizes.{Sizes}
-use Rattle.bundle.specs.declared.read.Reading.TheVariants as reading
 use Rattle.bundle.specs.Edition.{most_names}
 use Rattle.bundle.specs.Layout.{longest_bundle}
 use Rattle.bundle.specs.Rows.{reader_rows, Reads, Accepts}
@@ -19,8 +21,6 @@ use Rattle.bundle.specs.Held.{held}
 use Rattle.bundle.proofs.Refusals.{reader_places}
 use Rattle.bundle.proofs.Accepted.{accepted_contents, length_credentials}
 use Rattle.bundle.proofs.Determined.{reads_refused}
-use Rattle.writer.specs.declared.answer.Wrote.{Wrote}
-use Rattle.writer.specs.declared.answer.Wrote.TheVariants.{Refused}
 use Rattle.text.specs.Written.{Wrote as WroteFrom}
 use Rattle.text.proofs.Written.{wrote_text}
 use Rattle.letters.specs.Lines.{text_of, records_of}
@@ -38,8 +38,8 @@ use Rattle.lines_from_bundle.specs.Prints.{LinesFrom, Prints}
 use Rattle.lines_from_bundle.proofs.Gathered.{gathered_is}
 
 -- the reader's refusal
-pub bundle_refused : (bytes text : List ℕ) (number place : ℕ) → place ≤ most_place → Reads bytes (reading.Refused number place)
-    → Gives (reader_rows bytes) (LinesFrom bytes) text (Refused number place)
+pub bundle_refused : (bytes text : List ℕ) (number place : ℕ) → place ≤ most_place → Reads bytes (Err (refusal_at number place))
+    → Gives (reader_rows bytes) (LinesFrom bytes) text (Err (refusal_at number place))
 bundle_refused bytes text number place low r = refused (reads_refused bytes number place r) low
 
 module _ (bytes : List ℕ) (s : Sizes) (h : Accepts bytes s) where
@@ -71,7 +71,7 @@ module _ (bytes : List ℕ) (s : Sizes) (h : Accepts bytes s) where
         rw (e, long) (take_at (gathered bytes s.records) _ _ refl) ∙ list_is
 
     -- and their lines written
-    pub bundle_lines : (text after : List ℕ) (answer : Wrote) → 9360 ≤ length text → Writes s.entities s.names (take n records) text answer after
+    pub bundle_lines : (text after : List ℕ) (answer : Result ℕ (Refusal ℕ)) → 9360 ≤ length text → Writes s.entities s.names (take n records) text answer after
         → Gives (reader_rows bytes) (LinesFrom bytes) after answer
     bundle_lines text after answer long wrote =
         let c = accepted_contents bytes s h in

@@ -17,15 +17,15 @@ ghost use Rattle.lines_from_bundle.specs.Gathered.{gathered};
 ghost use Rattle.lines_from_bundle.specs.Prints.{LinesFrom, Prints, unreadable};
 
 use answers::line::{Text, empty, message, refusal};
+use base::refusal::Refusal;
 use block::{Block, RecordPlace};
-use bundle::read::{Reading, Sizes, read};
+use bundle::read::{Sizes, read};
 use desk::listing_of;
 use input::fill;
 use letters::write::write_lines;
 use listed::{ListProgram, Listing, say, write};
 use std::io::{Read, Write};
 use text::word;
-use writer::answer::Wrote;
 
 // The memory of the program.
 #[derive(Drop)]
@@ -76,7 +76,13 @@ fn gather(records: &mut [u8], bundle: &[u8], count: usize) -> usize
 }
 
 // The lines of the first bytes of a list of records.
-fn write_front(entities: u8, names: u8, records: &[u8], n: usize, text: &mut [u8]) -> Wrote
+fn write_front(
+    entities: u8,
+    names: u8,
+    records: &[u8],
+    n: usize,
+    text: &mut [u8],
+) -> Result<usize, Refusal<usize>>
     requires { n ≤ length records.now }
     ensures { Writes entities names (take n records.now) text.old result text.new }
 {
@@ -84,7 +90,12 @@ fn write_front(entities: u8, names: u8, records: &[u8], n: usize, text: &mut [u8
 }
 
 // The lines of an accepted bundle.
-fn from_records(bundle: &[u8], sizes: Sizes, records: &mut [u8], text: &mut [u8]) -> Wrote
+fn from_records(
+    bundle: &[u8],
+    sizes: Sizes,
+    records: &mut [u8],
+    text: &mut [u8],
+) -> Result<usize, Refusal<usize>>
     requires { Accepts bundle.now sizes × (2880 ≤ length records.old) × (9360 ≤ length text.old) }
     ensures { Gives (reader_rows bundle.now) (LinesFrom bundle.now) text.new result }
 {
@@ -95,17 +106,12 @@ fn from_records(bundle: &[u8], sizes: Sizes, records: &mut [u8], text: &mut [u8]
 }
 
 // The lines of a bundle.
-fn from_bundle(bundle: &[u8], records: &mut [u8], text: &mut [u8]) -> Wrote
+fn from_bundle(bundle: &[u8], records: &mut [u8], text: &mut [u8]) -> Result<usize, Refusal<usize>>
     requires { (2880 ≤ length records.old) × (9360 ≤ length text.old) }
     ensures { Gives (reader_rows bundle.now) (LinesFrom bundle.now) text.new result }
 {
-    match read(bundle) {
-        Reading::Accepted(sizes) => from_records(bundle, sizes, records, text),
-        Reading::Refused { number, place } => Wrote::Refused {
-            number,
-            place: place as usize,
-        },
-    }
+    let sizes = read(bundle)?;
+    from_records(bundle, sizes, records, text)
 }
 
 // What is said of these bytes.

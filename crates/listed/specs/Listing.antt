@@ -1,11 +1,10 @@
 -- What a program of lists says: on standard output so many bytes of its text and then a line, one of which is empty, and a message on standard
 -- error. And what is rightly said.
-use Rattle.std.specs.Prelude.{ℕ, ◌≤◌, ◌≡◌, List, [], ◌++◌, length, take, Result}
+use Rattle.std.specs.Prelude.{ℕ, ◌≤◌, ◌≡◌, List, [], ◌++◌, length, take, Result, Ok, Err}
+use Rattle.base.specs.declared.refusal.Refusal.{Refusal}
 use Rattle.answers.specs.Line.{refusal_line, Holds}
 use Rattle.input.specs.declared.Input.{Input}
 use Rattle.said.specs.Said.{RightlyBy}
-use Rattle.lists.specs.declared.Listed.{Listed}
-use Rattle.lists.specs.declared.Listed.TheVariants.{Length, Refused}
 use Rattle.listed.specs.declared.Listing.{Listing}
 
 -- the bytes on standard output are allowed
@@ -20,6 +19,6 @@ abbrev pub RightlyListed : {E : Type 0} → (List ℕ → List ℕ → Type 0) �
 RightlyListed Prints unreadable got buffer text l = RightlyBy (ListsAllowed text l) l.problem Prints unreadable got buffer
 
 -- what is said of an answer: the text that it left, or the line of the refusal
-abbrev pub Tells : Listed → Listing → Type 0
-Tells (Length n) l = (l.length ≡ n) × Holds l.line [] × Holds l.problem []
-Tells (Refused number place) l = (l.length ≡ 0) × Holds l.line (refusal_line number place) × Holds l.problem []
+abbrev pub Tells : Result ℕ (Refusal ℕ) → Listing → Type 0
+Tells (Ok n) l = (l.length ≡ n) × Holds l.line [] × Holds l.problem []
+Tells (Err why) l = (l.length ≡ 0) × Holds l.line (refusal_line why.number why.place) × Holds l.problem []

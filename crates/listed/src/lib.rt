@@ -8,8 +8,8 @@ ghost use Rattle.said.specs.Said.{PrintsLonger, Read};
 ghost use Rattle.listed.specs.Listing.{ListsAllowed, RightlyListed, Tells};
 
 use answers::line::{Text, empty, refusal};
+use base::refusal::Refusal;
 use input::Input;
-use lists::Listed;
 use said::write_text;
 use std::io;
 use std::io::Write;
@@ -23,18 +23,18 @@ pub struct Listing {
 }
 
 // What is said of an answer: the text that it left, or the line of its refusal.
-pub fn listing_of(listed: Listed) -> Listing
+pub fn listing_of(listed: Result<usize, Refusal<u16>>) -> Listing
     ensures { Tells listed result }
 {
     match listed {
-        Listed::Length(n) => Listing {
+        Ok(n) => Listing {
             length: n,
             line: empty(),
             problem: empty(),
         },
-        Listed::Refused { number, place } => Listing {
+        Err(refused) => Listing {
             length: 0,
-            line: refusal(number, place),
+            line: refusal(refused.number, refused.place),
             problem: empty(),
         },
     }

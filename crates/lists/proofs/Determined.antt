@@ -1,5 +1,9 @@
 -- The promise of a list leaves nothing open: two calls that keep it for the same bundle, question and memory give the same answer and leave
 -- the same bytes.
+use Rattle.std.specs.Prelude.{Result, Ok, Err}
+use Rattle.base.specs.declared.refusal.Refusal.{Refusal}
+use Rattle.base.specs.Refused.{refusal_at, number_of, place_of}
+use Rattle.base.proofs.Refused.{refused_same}
 use Prim.Native.Nat.{ℕ, ◌≤◌}
 use native.Mathlib.Omega.{arith}
 use mathlib.Core.Path.{◌≡◌, sym, ap, ◌∙◌}
@@ -12,13 +16,11 @@ use Rattle.base.proofs.Refusals.{judged_same, judged_given, one_place_both, numb
 use Rattle.bundle.specs.Rows.{reader_rows}
 use Rattle.bundle.specs.Held.{holding_in}
 use Rattle.bundle.proofs.Refusals.{reader_places, reader_numbers}
-use Rattle.lists.specs.declared.Listed.{Listed}
-use Rattle.lists.specs.declared.Listed.TheVariants.{Length, Refused}
 use Rattle.lines.specs.Right.{Line}
 use Rattle.lists.specs.Asked.{RightMembers, RightRoles}
 use Rattle.lines.specs.Text.{person_text, role_text, list_text}
 use Rattle.lines.specs.Sizes.{members_bytes, roles_bytes}
-use Rattle.lists.specs.Promise.{role_row, person_row, short_row, list_rows, number_of, place_of, length_of, ListRefused, ListGiven, ListPromise}
+use Rattle.lists.specs.Promise.{role_row, person_row, short_row, list_rows, length_of, ListRefused, ListGiven, ListPromise}
 use Rattle.lists.specs.Promise.{MembersPromise, RolesPromise}
 use Rattle.lines.proofs.Once.{right_once}
 use Rattle.lists.proofs.Found.{persons_one_way, roles_one_way}
@@ -29,25 +31,25 @@ unfolding list_text
 some_text key_text ls = simp length-append (omega arith)
 
 -- the same answers, and the same bytes
-abbrev pub Same : Listed → List ℕ → Listed → List ℕ → Type 0
+abbrev pub Same : Result ℕ (Refusal ℕ) → List ℕ → Result ℕ (Refusal ℕ) → List ℕ → Type 0
 Same one after_one two after_two = (one ≡ two) × (after_one ≡ after_two)
 
 module _ {K : Type 0} (Right : List (Line K) → Type 0) (once : (xs ys : List (Line K)) → Right xs → Right ys → xs ≡ ys) (key_text : K → List ℕ)
     (rows : List Row) (places : AllOnePlace rows) (numbers : AllNumbered rows) (before : List ℕ) where
-  abbrev Keeps : List ℕ → Listed → Type 0
+  abbrev Keeps : List ℕ → Result ℕ (Refusal ℕ) → Type 0
   Keeps after o = ListPromise Right key_text rows before after o
 
-  abbrev Both : List ℕ → Listed → List ℕ → Listed → Type 0
+  abbrev Both : List ℕ → Result ℕ (Refusal ℕ) → List ℕ → Result ℕ (Refusal ℕ) → Type 0
   Both after_one one after_two two =
       (ListRefused before after_one one × ListRefused before after_two two)
       ⊎ (ListGiven Right key_text before after_one one × ListGiven Right key_text before after_two two)
 
-  same_length : (after_one after_two : List ℕ) (one two : Listed) → Both after_one one after_two two → length_of one ≡ length_of two
+  same_length : (after_one after_two : List ℕ) (one two : Result ℕ (Refusal ℕ)) → Both after_one one after_two two → length_of one ≡ length_of two
   same_length after_one after_two one two (inl (k, l)) = k.none ∙ sym l.none
   same_length after_one after_two one two (inr (g, h)) =
       g.length_said ∙ ap (λ (ls : List (Line K)). length (list_text key_text ls)) (once g.list h.list g.right h.right) ∙ sym h.length_said
 
-  same_bytes : (after_one after_two : List ℕ) (one two : Listed) → Both after_one one after_two two → after_one ≡ after_two
+  same_bytes : (after_one after_two : List ℕ) (one two : Result ℕ (Refusal ℕ)) → Both after_one one after_two two → after_one ≡ after_two
   same_bytes after_one after_two one two (inl (k, l)) = k.untouched ∙ sym l.untouched
   same_bytes after_one after_two one two (inr (g, h)) =
       g.written
@@ -56,19 +58,19 @@ module _ {K : Type 0} (Right : List (Line K) → Type 0) (once : (xs ys : List (
       ∙ sym h.written
 
   -- a refusal has a number
-  no_number : (after : List ℕ) (n p : ℕ) → Keeps after (Refused n p) → n ≡ 0 → ⊥
+  no_number : (after : List ℕ) (n p : ℕ) → Keeps after (Err (refusal_at n p)) → n ≡ 0 → ⊥
   no_number after n p k z =
       let g = (judged_given rows places numbers k z).1 in
       omega (arith, some_text key_text g.list, g.length_said)
 
-  same_answer : (after_one after_two : List ℕ) (one two : Listed) → Keeps after_one one → Keeps after_two two → number_of one ≡ number_of two
+  same_answer : (after_one after_two : List ℕ) (one two : Result ℕ (Refusal ℕ)) → Keeps after_one one → Keeps after_two two → number_of one ≡ number_of two
       → place_of one ≡ place_of two → length_of one ≡ length_of two → one ≡ two
-  same_answer after_one after_two (Length n) (Length m) p q number place size = ap Length size
-  same_answer after_one after_two (Length n) (Refused m l) p q number place size = absurd (no_number after_two m l q (sym number))
-  same_answer after_one after_two (Refused n k) (Length m) p q number place size = absurd (no_number after_one n k p number)
-  same_answer after_one after_two (Refused n k) (Refused m l) p q number place size = cc
+  same_answer after_one after_two (Ok n) (Ok m) p q number place size = ap Ok size
+  same_answer after_one after_two (Ok n) (Err why) p q number place size = absurd (no_number after_two why.number why.place q (sym number))
+  same_answer after_one after_two (Err why) (Ok m) p q number place size = absurd (no_number after_one why.number why.place p number)
+  same_answer after_one after_two (Err why) (Err other) p q number place size = refused_same _ _ number place
 
-  list_determined : (after_one after_two : List ℕ) (one two : Listed) → Keeps after_one one → Keeps after_two two → Same one after_one two after_two
+  list_determined : (after_one after_two : List ℕ) (one two : Result ℕ (Refusal ℕ)) → Keeps after_one one → Keeps after_two two → Same one after_one two after_two
   list_determined after_one after_two one two p q =
       let (number, place, both) = judged_same rows places p q in (
         same_answer after_one after_two one two p q number place (same_length after_one after_two one two both),
@@ -85,7 +87,7 @@ module _ (bytes : List ℕ) (asked : Row) (needed : ℕ) (before : List ℕ) whe
   pub list_numbers : 1 ≤ asked.number → AllNumbered (list_rows bytes asked needed before)
   list_numbers one = numbered_both (reader_rows bytes) later (reader_numbers bytes) (one, (omega arith, tt))
 
-module _ (bytes before after_one after_two : List ℕ) (one two : Listed) where
+module _ (bytes before after_one after_two : List ℕ) (one two : Result ℕ (Refusal ℕ)) where
   pub members_determined : (ρ : Role) → MembersPromise bytes ρ before after_one one → MembersPromise bytes ρ before after_two two
       → Same one after_one two after_two
   members_determined ρ p q =

@@ -1,5 +1,6 @@
 -- The text of an input: it is that of what the list promises; an input that is too long for any question has the line of refusal 1 at 0; and no
 -- input has two texts.
+use Rattle.std.specs.Prelude.{Result}
 use Prim.Native.Nat.{ℕ, ◌-◌, ◌<◌, ◌≤◌, min}
 use native.Mathlib.Omega.{arith}
 use mathlib.Core.Path.{◌≡◌, refl, subst₂}
@@ -7,6 +8,7 @@ use mathlib.Core.Logic.{inl, inr}
 use mathlib.Core.List.{List, [], ◌∷◌}
 use lib.ListN.{length, take, drop, length-drop}
 use Rattle.rt0.specs.Credential.{Role, ◌·◌}
+use Rattle.base.specs.declared.refusal.Refusal.{Refusal}
 use Rattle.base.specs.Byte.{byte_at}
 use Rattle.base.proofs.Refusals.{one_place_both, zero_place}
 use Rattle.bundle.specs.Rows.{reader_rows}
@@ -18,7 +20,6 @@ use Rattle.asked.proofs.Input.{bundle_part}
 use Rattle.lines.specs.Sizes.{members_bytes}
 use Rattle.lines.specs.Text.{person_text}
 use Rattle.lines.proofs.Once.{right_once}
-use Rattle.lists.specs.declared.Listed.{Listed}
 use Rattle.lists.specs.Asked.{RightMembers}
 use Rattle.lists.specs.Promise.{role_row, MembersPromise}
 use Rattle.lists.proofs.Found.{persons_one_way}
@@ -30,7 +31,7 @@ use Rattle.members.specs.Input.{question_bytes, longest_input, bundle_of, role_o
 use Rattle.members.specs.Prints.{members_rows, Prints}
 
 -- the part behind the question is the bundle, and the first two bytes are the question
-pub asked : (input : List ℕ) (start a r : ℕ) (before after : List ℕ) (o : Listed) → start ≡ min question_bytes (length input)
+pub asked : (input : List ℕ) (start a r : ℕ) (before after : List ℕ) (o : Result ℕ (Refusal ℕ)) → start ≡ min question_bytes (length input)
     → a ≡ byte_at input 0 → r ≡ byte_at input 1 → MembersPromise (take (length input - start) (drop start input)) (a · r) before after o
     → MembersPromise (bundle_of input) (role_of input) before after o
 asked input start a r before after o s e f p =
@@ -38,7 +39,7 @@ asked input start a r before after o s e f p =
     subst₂ (λ (bytes : List ℕ) (ρ : Role). MembersPromise bytes ρ before after o) (bundle_part question_bytes input start s) same p
 
 module _ (input : List ℕ) where
-  pub prints_list : (before after : List ℕ) (o : Listed) (l : Listing) → members_bytes ≤ length before
+  pub prints_list : (before after : List ℕ) (o : Result ℕ (Refusal ℕ)) (l : Listing) → members_bytes ≤ length before
       → MembersPromise (bundle_of input) (role_of input) before after o → Tells o l → ListsAllowed after l (Prints input)
   prints_list before after o l room =
       prints_listed (RightMembers (holding_in (bundle_of input)) (role_of input)) person_text (members_rows input) members_bytes before after room

@@ -15,10 +15,11 @@ ghost use Rattle.members.specs.Prints.{Prints, unreadable};
 use answers::line::{Text, empty, message, refusal};
 use asked::bundle_start;
 use base::byte;
+use base::refusal::Refusal;
 use input::fill;
 use lines::Room;
 use listed::{ListProgram, Listing, listing_of, say, write};
-use lists::{Listed, members};
+use lists::members;
 use std::io::{Read, Write};
 
 // The bytes of a question before its bundle: the entity and the role name.
@@ -39,7 +40,7 @@ impl Memory {
 }
 
 // The list for the bytes of a question: the entity, the role name, then the bundle.
-fn list(input: &[u8], text: &mut [u8]) -> Listed
+fn list(input: &[u8], text: &mut [u8]) -> Result<usize, Refusal<u16>>
     ensures { MembersPromise (bundle_of input.now) (role_of input.now) text.old text.new result }
 {
     let a = byte(input, 0) as u8;

@@ -1,5 +1,6 @@
 -- The premises that are found are those that a line needs: the lowest entity between two parts of a link is one that is between them, and each
 -- form's lines are those of its parts.
+use Rattle.std.specs.Prelude.{Option, Some, None}
 use Prim.Native.Nat.{ℕ, zero, suc, ◌+◌, ◌-◌, ◌<◌, ◌≤◌, min}
 use native.Mathlib.Decide.{dec_lt}
 use native.Mathlib.Numerals.{add-one}
@@ -70,20 +71,20 @@ module _ (E : ℕ) (e : E ≤ most_entities) (ws : List ℕ) (D : ℕ) where
   -- ---- each form
 
   module _ (index : List ℕ) where
-    in_found : (k : Record) → bit (give_of E ws k) (D - 1) ≡ 1 → PremisesOf E ws index (credential_of k) D (premises_in ws index k D)
+    in_found : (k : Option Record) → bit (give_of E ws k) (D - 1) ≡ 1 → PremisesOf E ws index (credential_of k) D (premises_in ws index k D)
     unfolding give_of premises_in link_premises
-    in_found (variant.Entity h B) g = (refl, (refl, (refl, tt)))
-    in_found (variant.Role h ρ) g = (refl, (refl, (refl, tt)))
-    in_found (variant.Link h r1 r2) g =
+    in_found (Some (variant.Entity h B)) g = (refl, (refl, (refl, tt)))
+    in_found (Some (variant.Role h ρ)) g = (refl, (refl, (refl, tt)))
+    in_found (Some (variant.Link h r1 r2)) g =
         let least : min E most_entities ≡ E = omega arith in
         let w = word_of ws h.entity r1 in
         (lowest_between ws w r2 D, between_there w r2 (rw least at g), refl, refl, (refl, tt))
-    in_found (variant.TwoParts h ρ σ) g = (refl, (refl, (refl, tt)))
-    in_found (variant.ThreeParts h ρ σ τ) g = (refl, (refl, (refl, tt)))
-    in_found variant.Nothing g = tt
+    in_found (Some (variant.TwoParts h ρ σ)) g = (refl, (refl, (refl, tt)))
+    in_found (Some (variant.ThreeParts h ρ σ τ)) g = (refl, (refl, (refl, tt)))
+    in_found None g = tt
 
     -- for a record that gives D from the words
-    pub premises_found : IsEntity most_entities D → (k : Record) → bit (give_of E ws k) (D - 1) ≡ 1
+    pub premises_found : IsEntity most_entities D → (k : Option Record) → bit (give_of E ws k) (D - 1) ≡ 1
         → PremisesOf E ws index (credential_of k) D (premises_by ws index k D)
     unfolding premises_by
     premises_found d k g = rw (inside_flag most_entities D d.above d.within) (in_found k g)

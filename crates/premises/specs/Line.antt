@@ -1,5 +1,5 @@
 -- The line by which a record gives a member, and a slip with one more line, as bytes; and what that leaves of the lines and of the bytes.
-use Rattle.std.specs.Prelude.{ℕ, ◌+◌, ◌*◌, ◌/◌, ◌≡◌, cond, List, [], ◌∷◌, ◌++◌, ltb, length, drop}
+use Rattle.std.specs.Prelude.{ℕ, ◌+◌, ◌*◌, ◌/◌, ◌≡◌, cond, List, [], ◌∷◌, ◌++◌, ltb, length, drop, Option}
 use Rattle.std.proofs.lemmas.List.Edits.{sets}
 use Rattle.rt0.specs.Slip.{Line, line}
 use Rattle.rt0.specs.Bytes.{lines_of, bytes_of_line}
@@ -12,7 +12,7 @@ abbrev pub line_with : ℕ → ℕ → Premises → Line
 line_with c D ps = line D c ps.first ps.second ps.third
 
 -- the line that a record of number c gives D, with the premises that the index has for it
-abbrev pub line_by : List ℕ → List ℕ → Record → ℕ → ℕ → Line
+abbrev pub line_by : List ℕ → List ℕ → Option Record → ℕ → ℕ → Line
 line_by ws index k c D = line_with c D (premises_by ws index k D)
 
 -- a slip with one more line behind n lines; where there is no room it stays

@@ -1,6 +1,6 @@
 -- The premises of a line, taken from the index: for each form of credential, the lines of the facts that it needs. First as the functions
 -- find them at every input, then as a line needs them.
-use Rattle.std.specs.Prelude.{ℕ, ◌+◌, ◌-◌, ◌≡◌, Bool, cond, ◌&&◌, List, [], ◌∷◌, eqb}
+use Rattle.std.specs.Prelude.{ℕ, ◌+◌, ◌-◌, ◌≡◌, Bool, cond, ◌&&◌, List, [], ◌∷◌, eqb, Option as Maybe, Some, None}
 use Rattle.std.proofs.Math.Option.{Option, none, some}
 use Rattle.rt0.specs.Credential.{Role, ◌·◌, entity, role, link, intersection, Credential, ◌⟵◌, IsEntity}
 use Rattle.rt0.specs.Word.{bit}
@@ -34,17 +34,17 @@ link_premises ws index A r1 r2 D =
     let X = lowest_between ws (word_of ws A r1) r2 D in three (line_of index (A · r1) X) (line_of index (X · r2) D) 0
 
 -- by a record
-unfoldable pub premises_in : List ℕ → List ℕ → Record → ℕ → Premises
-premises_in ws index (variant.Entity h B) D = three 0 0 0
-premises_in ws index (variant.Role h ρ) D = three (line_of index (role_of ρ) D) 0 0
-premises_in ws index (variant.Link h r1 r2) D = link_premises ws index h.entity r1 r2 D
-premises_in ws index (variant.TwoParts h ρ σ) D = three (line_of index (role_of ρ) D) (line_of index (role_of σ) D) 0
-premises_in ws index (variant.ThreeParts h ρ σ τ) D =
+unfoldable pub premises_in : List ℕ → List ℕ → Maybe Record → ℕ → Premises
+premises_in ws index (Some (variant.Entity h B)) D = three 0 0 0
+premises_in ws index (Some (variant.Role h ρ)) D = three (line_of index (role_of ρ) D) 0 0
+premises_in ws index (Some (variant.Link h r1 r2)) D = link_premises ws index h.entity r1 r2 D
+premises_in ws index (Some (variant.TwoParts h ρ σ)) D = three (line_of index (role_of ρ) D) (line_of index (role_of σ) D) 0
+premises_in ws index (Some (variant.ThreeParts h ρ σ τ)) D =
     three (line_of index (role_of ρ) D) (line_of index (role_of σ) D) (line_of index (role_of τ) D)
-premises_in ws index variant.Nothing D = three 0 0 0
+premises_in ws index None D = three 0 0 0
 
 -- none where D is nobody
-unfoldable pub premises_by : List ℕ → List ℕ → Record → ℕ → Premises
+unfoldable pub premises_by : List ℕ → List ℕ → Maybe Record → ℕ → Premises
 premises_by ws index k D = cond (outside most_entities D) (three 0 0 0) (premises_in ws index k D)
 
 -- ---- as a line needs them

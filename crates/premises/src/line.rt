@@ -31,7 +31,7 @@ fn put(slip: &mut [u8], lines: usize, member: u8, credential: u8, premises: Prem
 pub fn write_line(
     words: &[u32],
     index: &[u16],
-    record: Record,
+    record: Option<Record>,
     credential: u8,
     member: u8,
     slip: &mut [u8],

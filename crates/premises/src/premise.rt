@@ -73,10 +73,13 @@ fn link_premises(
 }
 
 // The premises by which a record gives a member of the tables to its head.
-fn premises_in(words: &[u32], index: &[u16], record: Record, member: usize) -> Premises
+fn premises_in(words: &[u32], index: &[u16], record: Option<Record>, member: usize) -> Premises
     requires { IsEntity most_entities member }
     ensures { result ≡ premises_in words.now index.now «record» member }
 {
+    let Some(record) = record else {
+        return Premises::of(0, 0, 0);
+    };
     match record {
         Record::Entity { head: _, entity: _ } => Premises::of(0, 0, 0),
         Record::Role { head: _, role } => Premises::of(line_of(index, role, member), 0, 0),
@@ -107,12 +110,16 @@ fn premises_in(words: &[u32], index: &[u16], record: Record, member: usize) -> P
                 third,
             )
         }
-        Record::Nothing => Premises::of(0, 0, 0),
     }
 }
 
 // The premises by which a record gives a member to its head; nobody has none.
-pub(crate) fn premises_of(words: &[u32], index: &[u16], record: Record, member: usize) -> Premises
+pub(crate) fn premises_of(
+    words: &[u32],
+    index: &[u16],
+    record: Option<Record>,
+    member: usize,
+) -> Premises
     ensures { result ≡ premises_by words.now index.now «record» member }
 {
     if outside(Table::ENTITIES, member) {

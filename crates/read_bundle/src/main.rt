@@ -12,7 +12,7 @@ ghost use Rattle.read_bundle.specs.Prints.{Prints, unreadable};
 ghost use Rattle.read_bundle.specs.Longer.{prints_longer};
 
 use answers::line::{Text, accepted, message, refusal};
-use bundle::read::{Reading, Sizes, read};
+use bundle::read::{Sizes, read};
 use input::fill;
 use said::{Program, say, write};
 use std::io::{Read, Write};
@@ -42,8 +42,8 @@ fn line_for(input: &[u8]) -> Text
     ensures { HoldsAllowed (Prints input.now) result }
 {
     match read(input) {
-        Reading::Accepted(sizes) => line_of(input, sizes),
-        Reading::Refused { number, place } => refusal(number, place),
+        Ok(sizes) => line_of(input, sizes),
+        Err(refused) => refusal(refused.number, refused.place),
     }
 }
 

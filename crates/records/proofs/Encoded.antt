@@ -1,5 +1,6 @@
 -- The reader of records is not too strict: the twelve bytes of a valid credential, of each form and with two parts or three, have no mistake,
 -- and they are that credential again. So a record has no mistake exactly if its twelve bytes are those of a valid credential.
+use Rattle.std.specs.Prelude.{None}
 use Prim.Native.Nat.{ℕ}
 use mathlib.Core.Path.{◌≡◌, refl, sym, ◌∙◌}
 use mathlib.Core.Bool.{false}
@@ -13,7 +14,6 @@ use Rattle.base.specs.Lowest.{lowest}
 use Rattle.base.proofs.Flags.{inside_flag}
 use Rattle.records.specs.Kinds.{wrong_by}
 use Rattle.records.specs.Mistake.{Mistaken, record_wrong}
-use Rattle.records.specs.declared.mistake.Mistake.TheVariants.{Nothing}
 use Rattle.records.specs.Bytes.{credential_in, bytes_of, twelve_in}
 use Rattle.records.proofs.Mistakes.{right_record}
 use Rattle.records.proofs.ValidRecord.{valid_record, own_bytes}
@@ -44,7 +44,7 @@ module _ (E R : ℕ) where
   right_bytes (A · r ⟵ intersection (ρ ∷ σ ∷ τ ∷ υ ∷ more)) ((a, n), (_, l, _)) = absurd (omega arith)
 
   -- the bytes of a valid credential have no mistake
-  pub encoded_right : (c : Credential) → Valid E R c → Mistaken E R (bytes_of c) Nothing
+  pub encoded_right : (c : Credential) → Valid E R c → Mistaken E R (bytes_of c) None
   encoded_right c v = (right_record E R (bytes_of c)).0 (right_bytes c v)
 
   -- and are that credential
@@ -65,7 +65,7 @@ module _ (E R : ℕ) where
   same_twelve bytes = refl
 
   -- a record has no mistake exactly if its twelve bytes are those of a valid credential
-  pub valid_exactly : (bytes : List ℕ) → Mistaken E R bytes Nothing ↔ ((c : Credential) × Valid E R c × (twelve_in bytes ≡ bytes_of c))
+  pub valid_exactly : (bytes : List ℕ) → Mistaken E R bytes None ↔ ((c : Credential) × Valid E R c × (twelve_in bytes ≡ bytes_of c))
   valid_exactly bytes = (
     λ m. let right = (right_record E R bytes).1 m in (credential_in bytes, valid_record E R bytes right, sym (own_bytes E R bytes right)),
     λ (c, v, e). (right_record E R bytes).0 (sym (same_twelve bytes) ∙ rw e (right_bytes c v)),

@@ -1,4 +1,5 @@
 -- The mistake of a record: the first way in which some byte is wrong is the row that is due, and there is only one.
+use Rattle.std.specs.Prelude.{Option, Some, None}
 use Prim.Native.Nat.{ℕ, zero, suc, ◌+◌, ◌<◌, ◌≤◌}
 use mathlib.Core.Path.{◌≡◌, refl, sym, ap, ◌∙◌}
 use mathlib.Core.Bool.{true, false, cond}
@@ -11,9 +12,10 @@ use Rattle.base.specs.Refusals.{row, AtZero, AllOnePlace, AllNumbered, Applies, 
 use Rattle.base.proofs.Lowest.{lowest_is, any_somewhere, any_true, clash}
 use Rattle.base.proofs.Refusals.{zero_place, judged_same, judged_exactly}
 use Rattle.records.specs.declared.mistake.Mistake.{Mistake}
-use Rattle.records.specs.declared.mistake.Mistake.TheVariants.{UnknownForm, NumberOfParts, EntityOutOfRange, NameOutOfRange, ByteNotZero, Nothing}
+use Rattle.records.specs.declared.mistake.Mistake.TheVariants.{UnknownForm, NumberOfParts, EntityOutOfRange, NameOutOfRange, ByteNotZero}
 use Rattle.records.specs.Kinds.{byte_wrong}
-use Rattle.records.specs.Mistake.{SomeByte, mistake_rows, mistake_number, Mistaken, some_wrong, mistake_kind, kind_number, record_wrong}
+use Rattle.base.specs.Cause.{number_for}
+use Rattle.records.specs.Mistake.{SomeByte, mistake_rows, cause_of, mistake_number, Mistaken, some_wrong, mistake_kind, kind_number, record_wrong}
 
 module _ (E R : ℕ) (bytes : List ℕ) where
   pub one_place : AllOnePlace (mistake_rows E R bytes)
@@ -38,23 +40,23 @@ module _ (E R : ℕ) (bytes : List ℕ) where
   there k l e = some_byte k (rw e ((lowest_is (some_wrong E R bytes) 5).hit (rw (← e) l)))
 
   -- by the first kind
-  pub unknown_form : 0 ≡ mistake_kind E R bytes → Mistaken E R bytes UnknownForm
+  pub unknown_form : 0 ≡ mistake_kind E R bytes → Mistaken E R bytes (Some UnknownForm)
   unknown_form e = refused (inl (refl, (refl, there 0 (omega arith) e))) tt
 
-  pub number_of_parts : 1 ≡ mistake_kind E R bytes → Mistaken E R bytes NumberOfParts
+  pub number_of_parts : 1 ≡ mistake_kind E R bytes → Mistaken E R bytes (Some NumberOfParts)
   number_of_parts e = refused (inr (missed 0 (omega arith), inl (refl, (refl, there 1 (omega arith) e)))) tt
 
-  pub entity_out_of_range : 2 ≡ mistake_kind E R bytes → Mistaken E R bytes EntityOutOfRange
+  pub entity_out_of_range : 2 ≡ mistake_kind E R bytes → Mistaken E R bytes (Some EntityOutOfRange)
   entity_out_of_range e =
       refused (inr (missed 0 (omega arith), inr (missed 1 (omega arith), inl (refl, (refl, there 2 (omega arith) e))))) tt
 
-  pub name_out_of_range : 3 ≡ mistake_kind E R bytes → Mistaken E R bytes NameOutOfRange
+  pub name_out_of_range : 3 ≡ mistake_kind E R bytes → Mistaken E R bytes (Some NameOutOfRange)
   name_out_of_range e =
       refused
       (inr (missed 0 (omega arith), inr (missed 1 (omega arith), inr (missed 2 (omega arith), inl (refl, (refl, there 3 (omega arith) e))))))
       tt
 
-  pub byte_not_zero : 4 ≡ mistake_kind E R bytes → Mistaken E R bytes ByteNotZero
+  pub byte_not_zero : 4 ≡ mistake_kind E R bytes → Mistaken E R bytes (Some ByteNotZero)
   byte_not_zero e =
       refused
       (inr (
@@ -72,48 +74,63 @@ module _ (E R : ℕ) (bytes : List ℕ) where
       ))
       tt
 
-  pub nothing_wrong : 5 ≤ mistake_kind E R bytes → Mistaken E R bytes Nothing
+  pub nothing_wrong : 5 ≤ mistake_kind E R bytes → Mistaken E R bytes None
   nothing_wrong l =
       passed refl refl
       (missed 0 (omega arith), (missed 1 (omega arith), (missed 2 (omega arith), (missed 3 (omega arith), (missed 4 (omega arith), tt)))))
       tt
 
 -- the mistake that a number stands for
-abbrev mistake_of : ℕ → Mistake
+abbrev mistake_of : ℕ → Option Mistake
 mistake_of n =
-    cond (eqb n 61) UnknownForm
-    (cond (eqb n 62) NumberOfParts
-    (cond (eqb n 63) EntityOutOfRange (cond (eqb n 64) NameOutOfRange (cond (eqb n 65) ByteNotZero Nothing))))
+    cond (eqb n 61) (Some UnknownForm)
+    (cond (eqb n 62) (Some NumberOfParts)
+    (cond (eqb n 63) (Some EntityOutOfRange) (cond (eqb n 64) (Some NameOutOfRange) (cond (eqb n 65) (Some ByteNotZero) None))))
 
-number_back : (m : Mistake) → mistake_of (mistake_number m) ≡ m
-number_back UnknownForm = refl
-number_back NumberOfParts = refl
-number_back EntityOutOfRange = refl
-number_back NameOutOfRange = refl
-number_back ByteNotZero = refl
-number_back Nothing = refl
+number_back : (m : Option Mistake) → mistake_of (mistake_number m) ≡ m
+number_back (Some UnknownForm) = refl
+number_back (Some NumberOfParts) = refl
+number_back (Some EntityOutOfRange) = refl
+number_back (Some NameOutOfRange) = refl
+number_back (Some ByteNotZero) = refl
+number_back None = refl
+
+-- a mistake has a number, that of its cause
+pub some_number : (m : Mistake) → mistake_number (Some m) ≡ 0 → ⊥
+some_number UnknownForm e = absurd (omega arith)
+some_number NumberOfParts e = absurd (omega arith)
+some_number EntityOutOfRange e = absurd (omega arith)
+some_number NameOutOfRange e = absurd (omega arith)
+some_number ByteNotZero e = absurd (omega arith)
+
+pub cause_number : (m : Mistake) → number_for (cause_of m) ≡ mistake_number (Some m)
+cause_number UnknownForm = refl
+cause_number NumberOfParts = refl
+cause_number EntityOutOfRange = refl
+cause_number NameOutOfRange = refl
+cause_number ByteNotZero = refl
 
 -- a record has one mistake, or none
-pub one_mistake : (E R : ℕ) (bytes : List ℕ) (m n : Mistake) → Mistaken E R bytes m → Mistaken E R bytes n → m ≡ n
+pub one_mistake : (E R : ℕ) (bytes : List ℕ) (m n : Option Mistake) → Mistaken E R bytes m → Mistaken E R bytes n → m ≡ n
 one_mistake E R bytes m n p q =
     let same = judged_same (mistake_rows E R bytes) (one_place E R bytes) p q in
     sym (number_back m) ∙ ap mistake_of same.0 ∙ number_back n
 
 -- each mistake is given exactly when its own row applies and no row before it
-pub mistake_exactly : (E R : ℕ) (bytes : List ℕ) (m : Mistake) → Mistaken E R bytes m → (n : ℕ) → 1 ≤ n
+pub mistake_exactly : (E R : ℕ) (bytes : List ℕ) (m : Option Mistake) → Mistaken E R bytes m → (n : ℕ) → 1 ≤ n
     → (mistake_number m ≡ n) ↔ Due (mistake_rows E R bytes) n 0
 mistake_exactly E R bytes m p n l =
     let exactly = judged_exactly (mistake_rows E R bytes) (one_place E R bytes) (numbered E R bytes) p n 0 l in
     (λ e. exactly.0 (e, refl), λ d. (exactly.1 d).0)
 
 -- the mistake of a kind
-abbrev mistake_at : ℕ → Mistake
-mistake_at zero = UnknownForm
-mistake_at (suc zero) = NumberOfParts
-mistake_at (suc (suc zero)) = EntityOutOfRange
-mistake_at (suc (suc (suc zero))) = NameOutOfRange
-mistake_at (suc (suc (suc (suc zero)))) = ByteNotZero
-mistake_at (suc (suc (suc (suc (suc k))))) = Nothing
+abbrev mistake_at : ℕ → Option Mistake
+mistake_at zero = Some UnknownForm
+mistake_at (suc zero) = Some NumberOfParts
+mistake_at (suc (suc zero)) = Some EntityOutOfRange
+mistake_at (suc (suc (suc zero))) = Some NameOutOfRange
+mistake_at (suc (suc (suc (suc zero)))) = Some ByteNotZero
+mistake_at (suc (suc (suc (suc (suc k))))) = None
 
 at_kind : (E R : ℕ) (bytes : List ℕ) (k : ℕ) → k ≡ mistake_kind E R bytes → Mistaken E R bytes (mistake_at k)
 at_kind E R bytes zero e = unknown_form E R bytes e
@@ -140,7 +157,7 @@ kind_number_lem (suc (suc (suc zero))) = refl
 kind_number_lem (suc (suc (suc (suc zero)))) = refl
 kind_number_lem (suc (suc (suc (suc (suc k))))) = rw (le-ltb (suc (suc (suc (suc (suc k))))) 5 (omega arith))
 
-pub mistake_number_lem : (E R : ℕ) (bytes : List ℕ) (m : Mistake) → Mistaken E R bytes m → mistake_number m ≡ kind_number (mistake_kind E R bytes)
+pub mistake_number_lem : (E R : ℕ) (bytes : List ℕ) (m : Option Mistake) → Mistaken E R bytes m → mistake_number m ≡ kind_number (mistake_kind E R bytes)
 mistake_number_lem E R bytes m p =
     ap mistake_number (one_mistake E R bytes m (mistake_at (mistake_kind E R bytes)) p (at_kind E R bytes (mistake_kind E R bytes) refl))
     ∙ kind_number_lem (mistake_kind E R bytes)
@@ -160,10 +177,10 @@ wrong_due E R bytes h =
         from (passed z _ _ _) = absurd (omega (arith, nothing_kind k z))
 
 -- a record is wrong exactly if it has a mistake
-pub right_record : (E R : ℕ) (bytes : List ℕ) → (record_wrong E R bytes ≡ false) ↔ Mistaken E R bytes Nothing
+pub right_record : (E R : ℕ) (bytes : List ℕ) → (record_wrong E R bytes ≡ false) ↔ Mistaken E R bytes None
 unfolding mistake_kind
 right_record E R bytes = (
   λ h. nothing_wrong E R bytes (ltb-false (mistake_kind E R bytes) 5 h),
   λ m. le-ltb (mistake_kind E R bytes) 5
-      (nothing_kind (mistake_kind E R bytes) (ap mistake_number (one_mistake E R bytes (mistake_at (mistake_kind E R bytes)) Nothing (at_kind E R bytes (mistake_kind E R bytes) refl) m))),
+      (nothing_kind (mistake_kind E R bytes) (ap mistake_number (one_mistake E R bytes (mistake_at (mistake_kind E R bytes)) None (at_kind E R bytes (mistake_kind E R bytes) refl) m))),
 )

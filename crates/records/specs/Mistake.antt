@@ -1,10 +1,12 @@
 -- What is wrong with a record: its rows in the paper's order, 61 to 65, each where some of the twelve bytes is wrong in that way. The
 -- mistake of a record is the first row that applies.
-use Rattle.std.specs.Prelude.{ℕ, ◌+◌, ◌<◌, ◌≡◌, Bool, true, cond, List, [], ◌∷◌, ltb}
+use Rattle.std.specs.Prelude.{ℕ, ◌+◌, ◌<◌, ◌≡◌, Bool, true, cond, List, [], ◌∷◌, ltb, Option, Some, None}
+use Rattle.base.specs.declared.refusal.Cause.{Cause}
+use Rattle.base.specs.declared.refusal.Cause.TheVariants as cause
 use Rattle.base.specs.Lowest.{lowest, any_below}
 use Rattle.base.specs.Refusals.{Row, row, AtZero, Judged}
 use Rattle.records.specs.declared.mistake.Mistake.{Mistake}
-use Rattle.records.specs.declared.mistake.Mistake.TheVariants.{UnknownForm, NumberOfParts, EntityOutOfRange, NameOutOfRange, ByteNotZero, Nothing}
+use Rattle.records.specs.declared.mistake.Mistake.TheVariants.{UnknownForm, NumberOfParts, EntityOutOfRange, NameOutOfRange, ByteNotZero}
 use Rattle.records.specs.Kinds.{byte_wrong}
 
 -- some byte of the twelve is wrong in way k
@@ -21,17 +23,25 @@ mistake_rows E R bytes =
     ∷ row 65 (AtZero (SomeByte E R bytes 4))
     ∷ []
 
+-- why a record with a mistake is refused
+abbrev pub cause_of : Mistake → Cause
+cause_of UnknownForm = cause.UnknownForm
+cause_of NumberOfParts = cause.NumberOfParts
+cause_of EntityOutOfRange = cause.EntityOutOfRange
+cause_of NameOutOfRange = cause.NameOutOfRange
+cause_of ByteNotZero = cause.ByteNotZero
+
 -- the paper's number of a mistake, 0 for none
-abbrev pub mistake_number : Mistake → ℕ
-mistake_number UnknownForm = 61
-mistake_number NumberOfParts = 62
-mistake_number EntityOutOfRange = 63
-mistake_number NameOutOfRange = 64
-mistake_number ByteNotZero = 65
-mistake_number Nothing = 0
+abbrev pub mistake_number : Option Mistake → ℕ
+mistake_number (Some UnknownForm) = 61
+mistake_number (Some NumberOfParts) = 62
+mistake_number (Some EntityOutOfRange) = 63
+mistake_number (Some NameOutOfRange) = 64
+mistake_number (Some ByteNotZero) = 65
+mistake_number None = 0
 
 -- this is what is wrong with a record over E entities and R names: the number that is due, or nothing where no row applies
-abbrev pub Mistaken : ℕ → ℕ → List ℕ → Mistake → Type 0
+abbrev pub Mistaken : ℕ → ℕ → List ℕ → Option Mistake → Type 0
 Mistaken E R bytes m = Judged (mistake_rows E R bytes) (mistake_number m) 0 (Unit {0}) (Unit {0})
 
 -- The same as functions that compute.

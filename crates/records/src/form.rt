@@ -38,14 +38,6 @@ pub enum Record {
         two: Role,
         three: Role,
     },
-    Nothing,
-}
-
-// The head of a record, if it is one.
-#[derive(Clone, Copy)]
-pub enum Head {
-    Of(Role),
-    Nothing,
 }
 
 // The role that two bytes of a record stand for.
@@ -79,53 +71,52 @@ fn parts_of(record: &[u8]) -> Record
     }
 }
 
-// The record that the bytes are, by its form; of an unknown form it is nothing.
-pub fn record_of(record: &[u8]) -> Record
+// The record that the bytes are, by its form; of an unknown form there is none.
+pub fn record_of(record: &[u8]) -> Option<Record>
     ensures { result ≡ record_in «record».now }
 {
     let head = role_at(record, 1);
     match byte(record, 0) {
-        1 => Record::Entity {
+        1 => Some(Record::Entity {
             head,
             entity: byte(record, 3),
-        },
-        2 => Record::Role {
+        }),
+        2 => Some(Record::Role {
             head,
             role: role_at(record, 3),
-        },
-        3 => Record::Link {
+        }),
+        3 => Some(Record::Link {
             head,
             first: byte(record, 3),
             second: byte(record, 4),
-        },
-        4 => parts_of(record),
-        _ => Record::Nothing,
+        }),
+        4 => Some(parts_of(record)),
+        _ => None,
     }
 }
 
-// The head of a record.
-pub fn head_of(record: Record) -> Head
+// The head of a record, where there is one.
+pub fn head_of(record: Option<Record>) -> Option<Role>
     ensures { result ≡ head_of «record» }
 {
-    match record {
-        Record::Entity { head, entity: _ } => Head::Of(head),
-        Record::Role { head, role: _ } => Head::Of(head),
+    match record? {
+        Record::Entity { head, entity: _ } => Some(head),
+        Record::Role { head, role: _ } => Some(head),
         Record::Link {
             head,
             first: _,
             second: _,
-        } => Head::Of(head),
+        } => Some(head),
         Record::TwoParts {
             head,
             one: _,
             two: _,
-        } => Head::Of(head),
+        } => Some(head),
         Record::ThreeParts {
             head,
             one: _,
             two: _,
             three: _,
-        } => Head::Of(head),
-        Record::Nothing => Head::Nothing,
+        } => Some(head),
     }
 }

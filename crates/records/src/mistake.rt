@@ -2,8 +2,9 @@
 ghost use Rattle.std.specs.Prelude.{◌≡◌};
 ghost use Rattle.base.specs.Lowest.{lowest};
 ghost use Rattle.records.specs.Kinds.{entity_byte, name_byte, parts_byte, wrong_by, first_of};
-ghost use Rattle.records.specs.Mistake.{Mistaken, mistake_number, mistake_kind, record_wrong};
+ghost use Rattle.records.specs.Mistake.{Mistaken, cause_of, mistake_number, mistake_kind, record_wrong};
 
+use base::refusal::Cause;
 use base::{byte, outside};
 
 // The kinds of mistake, in the order in which they go first.
@@ -19,8 +20,6 @@ pub enum Mistake {
     NameOutOfRange,
     // A byte that the form does not use is not zero.
     ByteNotZero,
-    // Nothing is wrong.
-    Nothing,
 }
 
 // The number of bytes of a record, and the number of kinds of mistake.
@@ -106,31 +105,41 @@ fn first_kind(entities: usize, names: usize, record: &[u8]) -> usize
         .unwrap_or(Twelve::KINDS)
 }
 
-// What is wrong with a record over so many entities and role names.
-pub fn mistake_of(entities: usize, names: usize, record: &[u8]) -> Mistake
+impl From<Mistake> for Cause {
+    ghost from_gives = { λ m c. c ≡ cause_of m };
+
+    fn from(mistake: Mistake) -> Cause {
+        match mistake {
+            Mistake::UnknownForm => Cause::UnknownForm,
+            Mistake::NumberOfParts => Cause::NumberOfParts,
+            Mistake::EntityOutOfRange => Cause::EntityOutOfRange,
+            Mistake::NameOutOfRange => Cause::NameOutOfRange,
+            Mistake::ByteNotZero => Cause::ByteNotZero,
+        }
+    }
+}
+
+// What is wrong with a record over so many entities and role names, if anything is.
+pub fn mistake_of(entities: usize, names: usize, record: &[u8]) -> Option<Mistake>
     ensures { Mistaken entities names «record».now result }
 {
     match first_kind(entities, names, record) {
-        0 => Mistake::UnknownForm,
-        1 => Mistake::NumberOfParts,
-        2 => Mistake::EntityOutOfRange,
-        3 => Mistake::NameOutOfRange,
-        4 => Mistake::ByteNotZero,
-        _ => Mistake::Nothing,
+        0 => Some(Mistake::UnknownForm),
+        1 => Some(Mistake::NumberOfParts),
+        2 => Some(Mistake::EntityOutOfRange),
+        3 => Some(Mistake::NameOutOfRange),
+        4 => Some(Mistake::ByteNotZero),
+        _ => None,
     }
 }
 
 // The paper's number of a mistake, 0 for none.
-pub fn number_of(mistake: Mistake) -> u8
+pub fn number_of(mistake: Option<Mistake>) -> u8
     ensures { result ≡ mistake_number mistake }
 {
     match mistake {
-        Mistake::UnknownForm => 61,
-        Mistake::NumberOfParts => 62,
-        Mistake::EntityOutOfRange => 63,
-        Mistake::NameOutOfRange => 64,
-        Mistake::ByteNotZero => 65,
-        Mistake::Nothing => 0,
+        Some(mistake) => u8::from(Cause::from(mistake)),
+        None => 0,
     }
 }
 

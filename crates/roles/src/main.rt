@@ -15,10 +15,11 @@ ghost use Rattle.roles.specs.Prints.{Prints, unreadable};
 use answers::line::{Text, empty, message, refusal};
 use asked::bundle_start;
 use base::byte;
+use base::refusal::Refusal;
 use input::fill;
 use lines::Room;
 use listed::{ListProgram, Listing, listing_of, say, write};
-use lists::{Listed, roles};
+use lists::roles;
 use std::io::{Read, Write};
 
 // The bytes of a question before its bundle: the person.
@@ -39,7 +40,7 @@ impl Memory {
 }
 
 // The list for the bytes of a question: the person, then the bundle.
-fn list(input: &[u8], text: &mut [u8]) -> Listed
+fn list(input: &[u8], text: &mut [u8]) -> Result<usize, Refusal<u16>>
     ensures { RolesPromise (bundle_of input.now) (person_of input.now) text.old text.new result }
 {
     let d = byte(input, 0) as u8;

@@ -1,5 +1,6 @@
 -- The promise of the search determines everything but which lines a written slip has and how many.
 -- Two calls that keep it are taken apart side by side: both are refused, or both are answered with the same word.
+use Rattle.std.specs.Prelude.{Result, Ok, Err}
 use Prim.Native.Nat.{ℕ, zero, suc, ◌*◌, ◌≤◌, max}
 use mathlib.Core.Path.{◌≡◌, refl, sym, ap, ◌∙◌}
 use mathlib.Core.Logic.{⊎_elim}
@@ -9,6 +10,8 @@ use lib.ListN.{drop}
 use Rattle.rt0.specs.Credential.{Role}
 use Rattle.rt0.specs.Book.{Book}
 use Rattle.rt0.specs.Holding.{Holding}
+use Rattle.base.specs.declared.refusal.Refusal.{Refusal}
+use Rattle.base.specs.Refused.{refusal_at}
 use Rattle.base.specs.Refusals.{Row, AllOnePlace, Judged}
 use Rattle.base.proofs.Refusals.{judged_same}
 use Rattle.bundle.specs.declared.question.Question.{Question}
@@ -17,7 +20,7 @@ use Rattle.rt0.specs.Completion.{Open, Verdict, YES, NO, UNSURE}
 use Rattle.rt0.proofs.Tables.{rounds_unique}
 use Rattle.rt0.proofs.Possible.{answer_unique}
 use Rattle.answers.specs.declared.Answer.{Answer}
-use Rattle.answers.specs.declared.Answer.TheVariants.{Yes, No, Unsure, Refused as AnswerRefused}
+use Rattle.answers.specs.declared.Answer.TheVariants.{Yes, No, Unsure}
 use Rattle.answers.specs.Answer.{Outcome, verdict_number, outcome_of}
 use Rattle.search.specs.Promise.{Lent, SlipLeft, search_rows, RefusedWith, AnsweredWith, PromiseWith}
 use Rattle.search.proofs.Judging.{search_places}
@@ -103,19 +106,19 @@ module _ (is_open : Open) (bytes : List ℕ) (q : Question) (before after_one af
   promise_determines p r = judged_agree (search_rows bytes q before) (search_places bytes q before) p r
 
 -- the answer with an outcome, found by its verdict: 0 is a refusal
-answer_by : ℕ → Outcome → Answer
-answer_by zero o = AnswerRefused o.number o.place
-answer_by (suc zero) o = Yes o.rounds o.lines
-answer_by (suc (suc zero)) o = No o.rounds
-answer_by (suc (suc (suc n))) o = Unsure o.rounds
+answer_by : ℕ → Outcome → Result Answer (Refusal ℕ)
+answer_by zero o = Err (refusal_at o.number o.place)
+answer_by (suc zero) o = Ok (Yes o.rounds o.lines)
+answer_by (suc (suc zero)) o = Ok (No o.rounds)
+answer_by (suc (suc (suc n))) o = Ok (Unsure o.rounds)
 
-answer_back : (a : Answer) → answer_by (outcome_of a).verdict (outcome_of a) ≡ a
+answer_back : (a : Result Answer (Refusal ℕ)) → answer_by (outcome_of a).verdict (outcome_of a) ≡ a
 unfolding answer_by
-answer_back (Yes n k) = refl
-answer_back (No n) = refl
-answer_back (Unsure n) = refl
-answer_back (AnswerRefused n p) = refl
+answer_back (Ok (Yes n k)) = refl
+answer_back (Ok (No n)) = refl
+answer_back (Ok (Unsure n)) = refl
+answer_back (Err why) = refl
 
 -- an answer is determined by its outcome
-pub outcome_answer : (a b : Answer) → outcome_of a ≡ outcome_of b → a ≡ b
+pub outcome_answer : (a b : Result Answer (Refusal ℕ)) → outcome_of a ≡ outcome_of b → a ≡ b
 outcome_answer a b e = sym (answer_back a) ∙ ap (λ (o : Outcome). answer_by o.verdict o) e ∙ answer_back b

@@ -1,4 +1,5 @@
 -- The order of the refusals 7 and 8 after the reader's own, and the promise of a whole answer from its stages.
+use Rattle.std.specs.Prelude.{Ok, Err}
 use Prim.Native.Nat.{ℕ}
 use native.Mathlib.Omega.{arith}
 use mathlib.Core.Path.{◌≡◌, refl, sym, ap}
@@ -10,11 +11,11 @@ use lib.Dec.{ltb}
 use borrow.Author.Tests.{ltb-false, le-ltb}
 use Rattle.rt0.specs.Completion.{Open}
 use Rattle.rt0.specs.Sizes.{slip_bytes}
+use Rattle.base.specs.Refused.{refusal_at}
 use Rattle.base.specs.Refusals.{Row, Due, Clear, Applies, AllOnePlace, AllNumbered, refused, passed}
 use Rattle.base.proofs.Flags.{or_false, Tells, or_tells_three, lt_tells, clash_flag}
 use Rattle.base.proofs.Refusals.{due_first, due_later, clear_both, one_place_both, numbered_both, zero_place}
 use Rattle.bundle.specs.declared.read.Sizes.{Sizes}
-use Rattle.bundle.specs.declared.read.Reading.TheVariants as reading
 use Rattle.bundle.specs.declared.question.Question.{Question}
 use Rattle.bundle.specs.Layout.{entities_of, names_of}
 use Rattle.bundle.specs.Rows.{reader_rows, Reads, Accepts}
@@ -25,7 +26,6 @@ use Rattle.bundle.proofs.Refusals.{reader_places, reader_numbers, reads_accepted
 use Rattle.bundle.proofs.Determined.{reads_refused}
 use Rattle.bundle.proofs.Questions.{question_tells, asked_right}
 use Rattle.answers.specs.Answer.{Outcome, refusal}
-use Rattle.tables.specs.declared.Filled.TheVariants as filled
 use Rattle.words.specs.Sizes.{table_words}
 use Rattle.tables.specs.Promise.{Tables, tables, tables_wrong, TablesWith}
 use Rattle.tables.proofs.Told.{refused_told}
@@ -57,13 +57,13 @@ lent_tells m =
     or_tells_three _ _ _ (lt_tells (length m.sure) table_words) (lt_tells (length m.possible) table_words) (lt_tells (length m.slip) slip_bytes)
 
 -- what the reader answered
-pub refused_reader : (bytes : List ℕ) (wrong : Bool) (n p : ℕ) → Reads bytes (reading.Refused n p) → RefusedAs bytes wrong (refusal n p)
+pub refused_reader : (bytes : List ℕ) (wrong : Bool) (n p : ℕ) → Reads bytes (Err (refusal_at n p)) → RefusedAs bytes wrong (refusal n p)
 refused_reader bytes wrong n p r = record { outcome = refl; due = inl (reads_refused bytes n p r) }
 
-pub refused_question : (bytes : List ℕ) (s : Sizes) (wrong : Bool) → Reads bytes (reading.Accepted s) → wrong ≡ true → RefusedAs bytes wrong (refusal 7 0)
+pub refused_question : (bytes : List ℕ) (s : Sizes) (wrong : Bool) → Reads bytes (Ok s) → wrong ≡ true → RefusedAs bytes wrong (refusal 7 0)
 refused_question bytes s wrong r e = record { outcome = refl; due = inr ((reads_accepted bytes s r).clear, rw e, refl) }
 
-pub refused_memory : (bytes : List ℕ) (s : Sizes) (wrong : Bool) → Reads bytes (reading.Accepted s) → wrong ≡ false → RefusedAs bytes wrong (refusal 8 0)
+pub refused_memory : (bytes : List ℕ) (s : Sizes) (wrong : Bool) → Reads bytes (Ok s) → wrong ≡ false → RefusedAs bytes wrong (refusal 8 0)
 refused_memory bytes s wrong r e = record { outcome = refl; due = inr ((reads_accepted bytes s r).clear, rw e, refl) }
 
 -- a question in range by block 0 is asked of an accepted bundle
@@ -114,7 +114,7 @@ module _ (bytes : List ℕ) (q : Question) (before : Lent) where
 
 module _ (is_open : Open) (bytes : List ℕ) (q : Question) (sure possible slip : List ℕ) (enough : lent_wrong (lent sure possible slip) ≡ false) where
   -- the tables are refused by the reader alone
-  pub refused_tables : (after : Tables) (number place : ℕ) → TablesWith is_open bytes (tables sure possible) after (filled.Refused number place)
+  pub refused_tables : (after : Tables) (number place : ℕ) → TablesWith is_open bytes (tables sure possible) after (Err (refusal_at number place))
       → PromiseWith is_open bytes q (lent sure possible slip) (lent after.sure after.possible slip) (refusal number place)
   refused_tables after number place p =
       let (both, _) = or_false (tables_wrong (tables sure possible)) (ltb (length slip) slip_bytes) enough in

@@ -1,5 +1,5 @@
 // The answer to a right question, with memory enough.
-ghost use Rattle.std.specs.Prelude.{◌≡◌, false, ◌-◌, ◌≤◌, length, eqb};
+ghost use Rattle.std.specs.Prelude.{◌≡◌, false, ◌-◌, ◌≤◌, length, eqb, Ok};
 ghost use Rattle.rt0.specs.Credential.{IsEntity};
 ghost use Rattle.rt0.specs.Word.{bit as bit_of};
 ghost use Rattle.rt0.specs.Sizes.{slip_bytes};
@@ -15,9 +15,10 @@ ghost use Rattle.search.specs.Concluded.{SureShows, ConcludedBy};
 
 use crate::slip::write_slip;
 use answers::Answer;
+use base::refusal::Refusal;
 use bundle::question::Question;
 use bundle::read::Sizes;
-use tables::{Filled, fill_opening};
+use tables::fill_opening;
 use words::table::word;
 
 // Whether the person is in the role by a table.
@@ -41,7 +42,7 @@ fn conclude(
     requires { Asked bundle.now sizes question × SureShows (held bundle.now) rounds sure.now
         × (slip_bytes ≤ length slip.old) }
     ensures { ConcludedBy bundle.now question rounds possible.now
-        slip.old slip.new (outcome_of result) }
+        slip.old slip.new (outcome_of (Ok result)) }
 {
     if holds(sure, question) {
         let lines = write_slip(bundle, sizes, rounds as usize, question, slip);
@@ -65,17 +66,22 @@ pub(crate) fn work_out(
     sure: &mut [u32],
     possible: &mut [u32],
     slip: &mut [u8],
-) -> Answer
+) -> Result<Answer, Refusal<u16>>
     requires { (question_wrong (entities_of bundle.now) (names_of bundle.now) question ≡ false)
         × (lent_wrong (lent sure.old possible.old slip.old) ≡ false) }
     ensures { PromiseWith (open_names names bundle.now) bundle.now question
         (lent sure.old possible.old slip.old)
         (lent sure.new possible.new slip.new) (outcome_of result) }
 {
-    match fill_opening(bundle, names, sure, possible) {
-        Filled::Refused { number, place } => Answer::Refused { number, place },
-        Filled::Rounds { sizes, rounds } => {
-            conclude(bundle, sizes, rounds, question, sure, possible, slip)
-        }
-    }
+    let filled = fill_opening(bundle, names, sure, possible)?;
+    let answer = conclude(
+        bundle,
+        filled.sizes,
+        filled.rounds,
+        question,
+        sure,
+        possible,
+        slip,
+    );
+    Ok(answer)
 }

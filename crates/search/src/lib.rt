@@ -9,8 +9,9 @@ ghost use Rattle.search.specs.Concluded.{RefusedAs};
 
 use crate::answer::work_out;
 use answers::Answer;
+use base::refusal::{Cause, Refusal};
 use bundle::question::{Question, question_wrong};
-use bundle::read::{Reading, read, sizes_of};
+use bundle::read::{read, sizes_of};
 use rt0::Slip;
 use words::table::Table;
 
@@ -18,23 +19,14 @@ pub mod answer;
 pub mod slip;
 
 // The refusal of a bundle with a wrong question, or else with too little memory: the reader's own goes first, then 7, then 8.
-fn refuse(bundle: &[u8], wrong: bool) -> Answer
+fn refuse(bundle: &[u8], wrong: bool) -> Result<Answer, Refusal<u16>>
     ensures { RefusedAs bundle.now wrong (outcome_of result) }
 {
-    let reading = read(bundle);
-    let Reading::Refused { number, place } = reading else {
-        if wrong {
-            return Answer::Refused {
-                number: 7,
-                place: 0,
-            };
-        }
-        return Answer::Refused {
-            number: 8,
-            place: 0,
-        };
-    };
-    Answer::Refused { number, place }
+    read(bundle)?;
+    if wrong {
+        return Err(Cause::Question.at(0));
+    }
+    Err(Cause::Memory.at(0))
 }
 
 // The answer to every bundle, question and memory, where any absent shelf opens the names in a word. The bundle is read once: here if a
@@ -46,7 +38,7 @@ pub fn search_opening(
     sure: &mut [u32],
     possible: &mut [u32],
     slip: &mut [u8],
-) -> Answer
+) -> Result<Answer, Refusal<u16>>
     ensures { PromiseWith (open_names names bundle.now) bundle.now question
         (lent sure.old possible.old slip.old)
         (lent sure.new possible.new slip.new) (outcome_of result) }
@@ -71,7 +63,7 @@ pub fn search(
     sure: &mut [u32],
     possible: &mut [u32],
     slip: &mut [u8],
-) -> Answer
+) -> Result<Answer, Refusal<u16>>
     ensures { Promise bundle.now (ask d a r)
         (lent sure.old possible.old slip.old)
         (lent sure.new possible.new slip.new) (outcome_of result) }

@@ -1,4 +1,8 @@
 -- The answer to every bundle, sheet and number of a record by the table of refusals; and any two answers that keep the promise are equal.
+use Rattle.std.specs.Prelude.{Option, Some, None, Result, Ok, Err}
+use Rattle.base.specs.declared.refusal.Refusal.{Refusal}
+use Rattle.base.specs.Refused.{refusal_at, number_of, place_of}
+use Rattle.base.proofs.Refused.{refused_same}
 use Prim.Native.Nat.{ℕ, suc, ◌-◌, ◌<◌, ◌≤◌}
 use mathlib.Core.Path.{◌≡◌, refl, sym, ap, ◌∙◌}
 use mathlib.Core.Bool.{Bool, true, false}
@@ -16,7 +20,6 @@ use Rattle.base.proofs.Flags.{Tells, outside_tells, inside, clash_flag}
 use Rattle.base.proofs.Refusals.{zero_place, one_place_both, numbered_both, due_first, due_later, due_clear, due_number, due_unique}
 use Rattle.base.proofs.Refusals.{clear_both, judged_exactly, judged_clear}
 use Rattle.bundle.specs.declared.read.Sizes.{Sizes}
-use Rattle.bundle.specs.declared.read.Reading.TheVariants as reading
 use Rattle.bundle.specs.Layout.{names_of, records_of}
 use Rattle.bundle.specs.Rows.{reader_rows, Reads, Accepts}
 use Rattle.bundle.specs.Access.{record_of}
@@ -27,10 +30,8 @@ use Rattle.types.specs.Name.{Types}
 use Rattle.sheet.specs.Sheet.{RightSheet, sheet_row}
 use Rattle.sheet.specs.Types.{types_by}
 use Rattle.words.specs.Sizes.{most_entities}
-use Rattle.storage.specs.declared.Storage.{Storage}
-use Rattle.storage.specs.declared.Storage.TheVariants.{Held, Ill, Refused}
 use Rattle.storage.specs.Shelves.{HeldOn}
-use Rattle.storage.specs.Promise.{record_row, storage_rows, number_of, place_of, SaidOf, SaidOfRecord, StoragePromise}
+use Rattle.storage.specs.Promise.{record_row, storage_rows, SaidOf, SaidOfRecord, StoragePromise}
 use Rattle.storage.specs.Stored.{stored_for}
 use Rattle.storage.proofs.Said.{record_said}
 
@@ -46,14 +47,11 @@ held_same T c v w h k = bits_same most_entities v w h.small k.small at_bit
     at_bit d l = rw (sub-one (suc d)) at (at (suc d) (omega arith))
 
 -- what is said of a credential is one answer
-said_same : (T : Types) (c : Credential) (one two : Storage) → SaidOf T c one → SaidOf T c two → one ≡ two
-said_same T c (Held v) (Held w) (_, h) (_, k) = ap Held (held_same T c v w h k)
-said_same T c (Held v) Ill (t, _) n = absurd (n t)
-said_same T c (Held v) (Refused n p) s t = absurd t
-said_same T c Ill (Held w) n (t, _) = absurd (n t)
-said_same T c Ill Ill s t = refl
-said_same T c Ill (Refused n p) s t = absurd t
-said_same T c (Refused n p) two s t = absurd s
+said_same : (T : Types) (c : Credential) (one two : Option ℕ) → SaidOf T c one → SaidOf T c two → one ≡ two
+said_same T c (Some v) (Some w) (_, h) (_, k) = ap Some (held_same T c v w h k)
+said_same T c (Some v) None (t, _) n = absurd (n t)
+said_same T c None (Some w) n (t, _) = absurd (n t)
+said_same T c None None s t = refl
 
 module _ (bundle sheet : List ℕ) (n : ℕ) where
   -- the rows behind the reader's
@@ -67,7 +65,7 @@ module _ (bundle sheet : List ℕ) (n : ℕ) where
   storage_places = one_place_both (reader_rows bundle) later (reader_places bundle) (zero_place _, (zero_place _, tt))
 
   -- the reader's refusal
-  pub reader_refused : (m p : ℕ) → Reads bundle (reading.Refused m p) → StoragePromise bundle sheet n (Refused m p)
+  pub reader_refused : (m p : ℕ) → Reads bundle (Err (refusal_at m p)) → StoragePromise bundle sheet n (Err (refusal_at m p))
   reader_refused m p r = refused (due_first (reader_rows bundle) later m p (reads_refused bundle m p r)) tt
 
   module _ (s : Sizes) (h : Accepts bundle s) where
@@ -83,36 +81,32 @@ module _ (bundle sheet : List ℕ) (n : ℕ) where
           let R : s.names ≡ names_of bundle = cc h.said in
           wrong (rw R at (tells.0 w))
 
-      pub sheet_refused : found ≡ false → StoragePromise bundle sheet n (Refused 15 0)
+      pub sheet_refused : found ≡ false → StoragePromise bundle sheet n (Err (refusal_at 15 0))
       sheet_refused w = refused (due_later (reader_rows bundle) later 15 0 h.clear (inl (refl, (refl, not_right w)))) tt
 
       -- the record's
-      pub record_refused : found ≡ true → outside s.records n ≡ true → StoragePromise bundle sheet n (Refused 7 0)
+      pub record_refused : found ≡ true → outside s.records n ≡ true → StoragePromise bundle sheet n (Err (refusal_at 7 0))
       record_refused w o =
           let N : s.records ≡ records_of bundle = cc h.said in
           refused (due_later (reader_rows bundle) later 7 0 h.clear
           (inr (sheet_clear w, inl (refl, (refl, (outside_tells (records_of bundle) n).0 (rw (← N) o)))))) tt
 
       -- what is said of the record
-      pub record_answered : found ≡ true → outside s.records n ≡ false → (answer : Storage)
-          → answer ≡ stored_for (types_by sheet) (credential_of (record_of bundle n)) → StoragePromise bundle sheet n answer
+      pub record_answered : found ≡ true → outside s.records n ≡ false → (answer : Option ℕ)
+          → answer ≡ stored_for (types_by sheet) (credential_of (record_of bundle n)) → StoragePromise bundle sheet n (Ok answer)
       record_answered w o answer e =
           let N : s.records ≡ records_of bundle = cc h.said in
           let (low, high) = inside s.records n o in
           let said = record_said bundle sheet s h n low high answer e in
           let in_range : outside (records_of bundle) n ≡ false = rw (← N) o in
-          by answer said
+          passed refl refl
           (clear_both (reader_rows bundle) later h.clear
           (sheet_clear w, (λ a. clash_flag ((outside_tells (records_of bundle) n).1 a.1.1) in_range, tt)))
-        where
-          by : (a : Storage) → SaidOfRecord bundle sheet n a → Clear (storage_rows bundle sheet n) → StoragePromise bundle sheet n a
-          by (Held shelves) said c = passed refl refl c said
-          by Ill said c = passed refl refl c said
-          by (Refused m p) said c = absurd said.said
+          said
 
   -- ---- one answer
 
-  pub record_same : (one two : Storage) → SaidOfRecord bundle sheet n one → SaidOfRecord bundle sheet n two → one ≡ two
+  pub record_same : (one two : Option ℕ) → SaidOfRecord bundle sheet n one → SaidOfRecord bundle sheet n two → one ≡ two
   record_same one two s t =
       let same : s.credential ≡ t.credential = some-injective _ _ (sym s.there ∙ t.there) in
       said_same (types_by sheet) t.credential one two (rw same at s.said) t.said
@@ -120,22 +114,24 @@ module _ (bundle sheet : List ℕ) (n : ℕ) where
   none_due : (p : ℕ) → Due (storage_rows bundle sheet n) 0 p → ⊥
   none_due p d = omega (arith, due_number (storage_rows bundle sheet n) storage_numbers 0 p d)
 
-  pub answers_equal : (one two : Storage) → StoragePromise bundle sheet n one → StoragePromise bundle sheet n two → one ≡ two
-  answers_equal one two (passed _ _ _ s) (passed _ _ _ t) = record_same one two s t
-  answers_equal one two (refused d _) (passed _ _ c _) = absurd (due_clear (storage_rows bundle sheet n) _ _ c d)
-  answers_equal one two (passed _ _ c _) (refused d _) = absurd (due_clear (storage_rows bundle sheet n) _ _ c d)
-  answers_equal (Refused m p) (Refused k q) (refused d _) (refused e _) =
-      let (same, place) = due_unique (storage_rows bundle sheet n) storage_places m p k q d e in
-      cc
-  answers_equal (Refused m p) (Held w) (refused d _) (refused e _) = absurd (none_due 0 e)
-  answers_equal (Refused m p) Ill (refused d _) (refused e _) = absurd (none_due 0 e)
-  answers_equal (Held v) two (refused d _) (refused e _) = absurd (none_due 0 d)
-  answers_equal Ill two (refused d _) (refused e _) = absurd (none_due 0 d)
+  pub answers_equal : (one two : Result (Option ℕ) (Refusal ℕ)) → StoragePromise bundle sheet n one → StoragePromise bundle sheet n two → one ≡ two
+  answers_equal (Ok one) (Ok two) (passed _ _ _ s) (passed _ _ _ t) = ap Ok (record_same one two s t)
+  answers_equal (Ok one) two (refused d _) q = absurd (none_due 0 d)
+  answers_equal (Ok one) (Ok two) (passed _ _ _ s) (refused d _) = absurd (none_due 0 d)
+  answers_equal (Ok one) (Err why) (passed _ _ c _) (refused d _) = absurd (due_clear (storage_rows bundle sheet n) _ _ c d)
+  answers_equal (Ok one) (Err why) (passed _ _ _ s) (passed _ _ _ t) = absurd t
+  answers_equal (Err why) two (passed _ _ _ s) q = absurd s
+  answers_equal (Err why) (Ok two) (refused d _) (refused e _) = absurd (none_due 0 e)
+  answers_equal (Err why) (Ok two) (refused d _) (passed _ _ c _) = absurd (due_clear (storage_rows bundle sheet n) _ _ c d)
+  answers_equal (Err why) (Err other) (refused d _) (refused e _) =
+      let (same, place) = due_unique (storage_rows bundle sheet n) storage_places why.number why.place other.number other.place d e in
+      refused_same _ _ same place
+  answers_equal (Err why) (Err other) (refused d _) (passed _ _ _ t) = absurd t
 
   -- number and place exactly when due; number 0 exactly when no row applies
-  pub storage_exactly : (a : Storage) → StoragePromise bundle sheet n a → (m p : ℕ) → 1 ≤ m
+  pub storage_exactly : (a : Result (Option ℕ) (Refusal ℕ)) → StoragePromise bundle sheet n a → (m p : ℕ) → 1 ≤ m
       → ((number_of a ≡ m) × (place_of a ≡ p)) ↔ Due (storage_rows bundle sheet n) m p
   storage_exactly a = judged_exactly (storage_rows bundle sheet n) storage_places storage_numbers
 
-  pub storage_clear : (a : Storage) → StoragePromise bundle sheet n a → (number_of a ≡ 0) ↔ Clear (storage_rows bundle sheet n)
+  pub storage_clear : (a : Result (Option ℕ) (Refusal ℕ)) → StoragePromise bundle sheet n a → (number_of a ≡ 0) ↔ Clear (storage_rows bundle sheet n)
   storage_clear a = judged_clear (storage_rows bundle sheet n) storage_places storage_numbers

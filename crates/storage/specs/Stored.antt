@@ -1,5 +1,5 @@
 -- What is said of a record as functions that compute, for whatever a record's bytes are: of no credential it is that it is ill typed.
-use Rattle.std.specs.Prelude.{ℕ, Bool, false, cond, ◌||◌, List, [], ◌∷◌}
+use Rattle.std.specs.Prelude.{ℕ, Bool, false, cond, ◌||◌, List, [], ◌∷◌, Option as Maybe, Some, None}
 use Rattle.std.proofs.Math.Option.{Option, none, some}
 use Rattle.std.specs.Int.Bits.{bit_or}
 use Rattle.rt0.specs.Credential.{Role, ◌·◌, entity_of, entity, role, link, intersection, Credential, ◌⟵◌, issuer}
@@ -10,8 +10,6 @@ use Rattle.types.specs.Typed.{body_of, head_type}
 use Rattle.types.specs.Flags.{body_traces, structurally}
 use Rattle.words.specs.Give.{single_of}
 use Rattle.storage.specs.declared.typing.Sides.{Sides}
-use Rattle.storage.specs.declared.Storage.{Storage}
-use Rattle.storage.specs.declared.Storage.TheVariants.{Held, Ill}
 
 -- the sides of a type
 abbrev pub sides_of : NameType → Sides
@@ -55,6 +53,6 @@ abbrev pub shelves_for : Types → Option Credential → ℕ
 shelves_for T none = 0
 shelves_for T (some c) = shelves_word T c
 
--- what is said of it
-abbrev pub stored_for : Types → Option Credential → Storage
-stored_for T c = cond (structurally_for T c) (Held (shelves_for T c)) Ill
+-- what is said of it: the shelves, where it is structurally well typed
+abbrev pub stored_for : Types → Option Credential → Maybe ℕ
+stored_for T c = cond (structurally_for T c) (Some (shelves_for T c)) None

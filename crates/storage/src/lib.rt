@@ -11,69 +11,40 @@ ghost use Rattle.storage.specs.Promise.{StoragePromise};
 use crate::shelves::shelves;
 use crate::typing::structurally;
 use base::outside;
+use base::refusal::{Cause, Refusal};
 use bundle::access::record_at;
-use bundle::read::{Reading, read};
+use bundle::read::read;
 use sheet::right;
 
 pub mod shelves;
 pub mod typing;
 
-// What is said of a record by a sheet.
-#[derive(Clone, Copy)]
-pub enum Storage {
-    // It is structurally well typed, and these shelves must hold it: A is bit A − 1.
-    Held { shelves: u32 },
-    // It is not.
-    Ill,
-    // The reader's refusal, 15 for a sheet that is not right, or 7 where there is no such record.
-    Refused { number: u8, place: u16 },
-}
-
-// What is said of record number n of a bundle, counted from 1, by a sheet, whatever their bytes are.
-pub fn stored(bundle: &[u8], sheet: &[u8], n: usize) -> Storage
+// The shelves that must hold record number n of a bundle, counted from 1, by a sheet, where it is structurally well typed: A is bit A − 1.
+// Whatever their bytes are.
+pub fn stored(bundle: &[u8], sheet: &[u8], n: usize) -> Option<u32>
     ensures { result ≡ stored_for (types_by sheet.now) (credential_of (record_of bundle.now n)) }
 {
     let kept = record_at(bundle, n);
     if structurally(sheet, kept) {
-        return Storage::Held {
-            shelves: shelves(sheet, kept),
-        };
+        return Some(shelves(sheet, kept));
     }
-    Storage::Ill
+    None
 }
 
-// The answer to every bundle, sheet and number of a record.
-pub fn holders(bundle: &[u8], sheet: &[u8], number: u8) -> Storage
+// The answer to every bundle, sheet and number of a record: the reader's refusal, 15 for a sheet that is not right, or 7 where there is no
+// such record; or else the shelves that must hold it, where it is structurally well typed.
+pub fn holders(bundle: &[u8], sheet: &[u8], number: u8) -> Result<Option<u32>, Refusal<u16>>
     ensures { StoragePromise bundle.now sheet.now number result }
 {
-    let reading = read(bundle);
-    let Reading::Accepted(sizes) = reading else {
-        match reading {
-            Reading::Refused { number, place } => {
-                return Storage::Refused { number, place };
-            }
-            Reading::Accepted(_) => {
-                return Storage::Refused {
-                    number: 0,
-                    place: 0,
-                };
-            }
-        }
-    };
+    let sizes = read(bundle)?;
     let n = number as usize;
     let sheet_right = right(sheet, sizes.names);
     let no_record = outside(sizes.records, n);
     if !sheet_right {
-        return Storage::Refused {
-            number: 15,
-            place: 0,
-        };
+        return Err(Cause::Sheet.at(0));
     }
     if no_record {
-        return Storage::Refused {
-            number: 7,
-            place: 0,
-        };
+        return Err(Cause::Question.at(0));
     }
-    stored(bundle, sheet, n)
+    Ok(stored(bundle, sheet, n))
 }

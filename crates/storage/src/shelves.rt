@@ -6,7 +6,7 @@ ghost use Rattle.sheet.specs.Types.{types_by};
 ghost use Rattle.storage.specs.Stored.{subjects_for, shelves_for};
 
 use crate::typing::sides_of;
-use records::form::{Head, Record, head_of};
+use records::form::{Record, head_of};
 use words::give::single;
 
 // A word where the test holds, and nobody where it does not.
@@ -17,9 +17,12 @@ fn held_if(test: bool, word: u32) -> u32
 }
 
 // The subjects of a record.
-fn subjects(kept: Record) -> u32
+fn subjects(kept: Option<Record>) -> u32
     ensures { result ≡ subjects_for (credential_of kept) }
 {
+    let Some(kept) = kept else {
+        return 0;
+    };
     match kept {
         Record::Entity { head: _, entity } => single(entity),
         Record::Role { head: _, role } => single(role.entity),
@@ -35,15 +38,14 @@ fn subjects(kept: Record) -> u32
             two,
             three,
         } => single(one.entity) | (single(two.entity) | single(three.entity)),
-        Record::Nothing => 0,
     }
 }
 
 // The shelves that must hold a record.
-pub(crate) fn shelves(sheet: &[u8], kept: Record) -> u32
+pub(crate) fn shelves(sheet: &[u8], kept: Option<Record>) -> u32
     ensures { result ≡ shelves_for (types_by sheet.now) (credential_of kept) }
 {
-    let Head::Of(head) = head_of(kept) else {
+    let Some(head) = head_of(kept) else {
         return 0;
     };
     let name = sides_of(sheet, head.name);

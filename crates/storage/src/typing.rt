@@ -5,7 +5,7 @@ ghost use Rattle.types.specs.Flags.{name_traces};
 ghost use Rattle.sheet.specs.Types.{types_by};
 ghost use Rattle.storage.specs.Stored.{sides_of, body_for, structurally_for};
 
-use records::form::{Head, Record, head_of};
+use records::form::{Record, head_of};
 use sheet::code_of;
 use types::{Traces, both, link, three_conditions};
 
@@ -45,9 +45,16 @@ fn traces(sheet: &[u8], name: usize) -> Traces
 }
 
 // The type of a record's body.
-fn body(sheet: &[u8], kept: Record) -> Traces
+fn body(sheet: &[u8], kept: Option<Record>) -> Traces
     ensures { result ≡ body_for (types_by sheet.now) (credential_of kept) }
 {
+    let Some(kept) = kept else {
+        return Traces {
+            issuer: false,
+            subject: false,
+            weakly: false,
+        };
+    };
     match kept {
         Record::Entity { head: _, entity: _ } => Traces {
             issuer: true,
@@ -72,19 +79,14 @@ fn body(sheet: &[u8], kept: Record) -> Traces
             let others = both(traces(sheet, two.name), traces(sheet, three.name));
             both(traces(sheet, one.name), others)
         }
-        Record::Nothing => Traces {
-            issuer: false,
-            subject: false,
-            weakly: false,
-        },
     }
 }
 
 // Whether a record is structurally well typed.
-pub(crate) fn structurally(sheet: &[u8], kept: Record) -> bool
+pub(crate) fn structurally(sheet: &[u8], kept: Option<Record>) -> bool
     ensures { result ≡ structurally_for (types_by sheet.now) (credential_of kept) }
 {
-    let Head::Of(head) = head_of(kept) else {
+    let Some(head) = head_of(kept) else {
         return false;
     };
     three_conditions(traces(sheet, head.name), body(sheet, kept))

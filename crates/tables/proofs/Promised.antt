@@ -1,5 +1,6 @@
 -- From the tables at rest to the promise: what they show, how many rounds there were, what is left of the lent words, and the order of
 -- the refusals.
+use Rattle.std.specs.Prelude.{Ok, Err}
 use Prim.Native.Nat.{ℕ, ◌*◌, ◌^◌, ◌<◌, ◌≤◌, min}
 use native.Mathlib.Omega.{arith}
 use mathlib.Core.Path.{◌≡◌, refl, sym, ap, subst}
@@ -21,24 +22,23 @@ use Rattle.rt0.proofs.Possible.{Possible, possible_completable}
 use Rattle.rt0.proofs.Settle.{settled_rounds, settled_sure, settled_possible}
 use Rattle.rt0.proofs.Bounds.{rounds_by_heads}
 use Rattle.rt0.proofs.Shown.{place_within, shows_as}
+use Rattle.base.specs.Refused.{refusal_at}
 use Rattle.base.specs.Refusals.{AllOnePlace, AllNumbered, refused, passed}
 use Rattle.base.proofs.Flags.{or_false, Tells, or_tells, lt_tells, clash_flag}
 use Rattle.base.proofs.Refusals.{due_first, due_later, clear_both, one_place_both, numbered_both, zero_place}
 use Rattle.bundle.specs.Layout.{entities_of, names_of}
 use Rattle.bundle.specs.Rows.{reader_rows, Reads, Accepts}
-use Rattle.bundle.specs.declared.read.Reading.TheVariants as reading
 use Rattle.bundle.specs.Held.{held, shelves}
 use Rattle.bundle.proofs.Refusals.{reader_places, reader_numbers}
 use Rattle.bundle.proofs.Determined.{reads_refused}
 use Rattle.bundle.proofs.Accepted.{Contents, accepted_contents}
 use Rattle.bundle.specs.declared.read.Sizes.{Sizes}
-use Rattle.tables.specs.declared.Filled.TheVariants.{Rounds, Refused}
 use Rattle.words.specs.Sizes.{most_entities, width, table_words}
 use Rattle.words.specs.Give.{copied_over}
 use Rattle.tables.specs.declared.start.OpenRoles.{OpenRoles}
 use Rattle.tables.specs.Rest.{AtRest, RestsIn}
 use Rattle.tables.specs.Open.{names_in, open_names, nothing_open, opened_roles, start_words}
-use Rattle.tables.specs.Promise.{Tables, tables, TableLeft, TablesShort, tables_wrong, short_row, table_rows, TablesWith}
+use Rattle.tables.specs.Promise.{Tables, tables, TableLeft, TablesShort, tables_wrong, short_row, table_rows, TablesWith, filled}
 use Rattle.tables.proofs.Held.{held_entities, held_names}
 use Rattle.tables.proofs.Opened.{nothing_open_lem, opened_start}
 
@@ -146,13 +146,13 @@ module _ (bytes : List ℕ) (before : Tables) where
   pub table_numbers : AllNumbered (table_rows bytes before)
   table_numbers = numbered_both (reader_rows bytes) (short_row before ∷ []) (reader_numbers bytes) (omega arith, tt)
 
-  pub refused_read : (is_open : Open) (number place : ℕ) → Reads bytes (reading.Refused number place) → TablesWith is_open bytes before before (Refused number place)
+  pub refused_read : (is_open : Open) (number place : ℕ) → Reads bytes (Err (refusal_at number place)) → TablesWith is_open bytes before before (Err (refusal_at number place))
   refused_read is_open number place r =
       refused (due_first (reader_rows bytes) (short_row before ∷ []) number place (reads_refused bytes number place r))
       (record { sizes = refl; rounds = refl; untouched = refl })
 
   module _ {s : Sizes} (h : Accepts bytes s) where
-    pub refused_short : (is_open : Open) → tables_wrong before ≡ true → TablesWith is_open bytes before before (Refused 8 0)
+    pub refused_short : (is_open : Open) → tables_wrong before ≡ true → TablesWith is_open bytes before before (Err (refusal_at 8 0))
     refused_short is_open w =
         refused (due_later (reader_rows bytes) (short_row before ∷ []) 8 0 h.clear (inl (refl, (refl, (short_tells before).0 w))))
         (record { sizes = refl; rounds = refl; untouched = refl })
@@ -160,7 +160,7 @@ module _ (bytes : List ℕ) (before : Tables) where
     pub both_left : (names n m : ℕ) (after : Tables) → tables_wrong before ≡ false
         → RestsIn s.entities (held bytes) (start_words s nothing_open) before.sure n after.sure
         → RestsIn s.entities (held bytes) (start_words s (opened_roles bytes s.entities names)) before.possible m after.possible
-        → TablesWith (open_names names bytes) bytes before after (Rounds s n)
+        → TablesWith (open_names names bytes) bytes before after (Ok (filled s n))
     both_left names n m after enough x y =
         let (first, second) = tables_enough before.sure before.possible enough in
         let nobody = rw nothing_open_lem at x.rests in

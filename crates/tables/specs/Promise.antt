@@ -1,19 +1,20 @@
 -- The promise of the tables, for every bundle and all lent words: it fixes the answer and every word of both tables. It is over what the
 -- tables depend on: the entities and names, which roles are open, and the credentials that count.
-use Rattle.std.specs.Prelude.{ℕ, ◌*◌, ◌^◌, ◌<◌, ◌≤◌, ◌≡◌, Bool, ◌||◌, ◌⊎◌, List, [], ◌∷◌, ◌++◌, length, get_or, drop, ltb}
+use Rattle.std.specs.Prelude.{ℕ, ◌*◌, ◌^◌, ◌<◌, ◌≤◌, ◌≡◌, Bool, ◌||◌, ◌⊎◌, List, [], ◌∷◌, ◌++◌, length, get_or, drop, ltb, Result, Ok, Err}
 use Rattle.rt0.specs.Membership.{Assignment, Member}
 use Rattle.rt0.specs.Table.{distinct_heads}
 use Rattle.rt0.specs.Table.{Rounds as IsRounds}
 use Rattle.rt0.specs.Completion.{Open, Completable}
 use Rattle.rt0.specs.Holding.{Holding}
 use Rattle.rt0.specs.Word.{Shows}
+use Rattle.base.specs.declared.refusal.Refusal.{Refusal}
+use Rattle.base.specs.Refused.{number_of, place_of}
 use Rattle.base.specs.Refusals.{Row, row, AtZero, Judged}
 use Rattle.bundle.specs.declared.read.Sizes.{Sizes}
 use Rattle.bundle.specs.Layout.{sizes_in}
 use Rattle.bundle.specs.Rows.{reader_rows, no_sizes}
 use Rattle.bundle.specs.Held.{open_of, holding_with}
 use Rattle.tables.specs.declared.Filled.{Filled}
-use Rattle.tables.specs.declared.Filled.TheVariants.{Rounds, Refused}
 use Rattle.words.specs.Sizes.{most_entities, width, table_words}
 
 -- the two tables that are lent
@@ -55,39 +56,35 @@ short_row m = row 8 (AtZero (TablesShort m))
 abbrev pub table_rows : List ℕ → Tables → List Row
 table_rows bytes m = reader_rows bytes ++ (short_row m ∷ [])
 
--- the paper's number and place of an answer; the sizes and the rounds that it says
-abbrev pub number_of : Filled → ℕ
-number_of (Rounds s n) = 0
-number_of (Refused number place) = number
+-- tables that were filled, with these sizes and so many rounds
+abbrev pub filled : Sizes → ℕ → Filled
+filled s n = record { sizes = s; rounds = n }
 
-abbrev pub place_of : Filled → ℕ
-place_of (Rounds s n) = 0
-place_of (Refused number place) = place
+-- the sizes and the rounds that an answer says
+abbrev pub sizes_of : Result Filled (Refusal ℕ) → Sizes
+sizes_of (Ok given) = given.sizes
+sizes_of (Err why) = no_sizes
 
-abbrev pub sizes_of : Filled → Sizes
-sizes_of (Rounds s n) = s
-sizes_of (Refused number place) = no_sizes
-
-abbrev pub rounds_of : Filled → ℕ
-rounds_of (Rounds s n) = n
-rounds_of (Refused number place) = 0
+abbrev pub rounds_of : Result Filled (Refusal ℕ) → ℕ
+rounds_of (Ok given) = given.rounds
+rounds_of (Err why) = 0
 
 -- a refusal says no sizes and no rounds, and touches nothing
-pub record TablesRefused (before after : Tables) (o : Filled) : Type 0 where
+pub record TablesRefused (before after : Tables) (o : Result Filled (Refusal ℕ)) : Type 0 where
   pub sizes : sizes_of o ≡ no_sizes
   pub rounds : rounds_of o ≡ 0
   pub untouched : after ≡ before
 
 -- an answer says the bundle's sizes, and leaves its tables
-pub record TablesGiven (is_open : Open) (bytes : List ℕ) (before after : Tables) (o : Filled) : Type 0 where
+pub record TablesGiven (is_open : Open) (bytes : List ℕ) (before after : Tables) (o : Result Filled (Refusal ℕ)) : Type 0 where
   pub sizes : sizes_of o ≡ sizes_in bytes
   pub filled : FilledWith (holding_with is_open bytes) before after (rounds_of o)
 
 -- where these roles are open
-abbrev pub TablesWith : Open → List ℕ → Tables → Tables → Filled → Type 0
+abbrev pub TablesWith : Open → List ℕ → Tables → Tables → Result Filled (Refusal ℕ) → Type 0
 TablesWith is_open bytes before after o =
     Judged (table_rows bytes before) (number_of o) (place_of o) (TablesRefused before after o) (TablesGiven is_open bytes before after o)
 
 -- by the bundle's marks alone
-abbrev pub TablesPromise : List ℕ → Tables → Tables → Filled → Type 0
+abbrev pub TablesPromise : List ℕ → Tables → Tables → Result Filled (Refusal ℕ) → Type 0
 TablesPromise bytes = TablesWith (open_of bytes) bytes

@@ -11,7 +11,8 @@ ghost use Rattle.tables.specs.Promise.{TablesWith, TablesPromise, tables};
 
 use crate::settle::fill_table;
 use crate::start::{OpenRoles, opened};
-use bundle::read::{Reading, Sizes, read};
+use base::refusal::{Cause, Refusal};
+use bundle::read::{Sizes, read};
 use words::table::{Table, copy};
 
 pub mod round;
@@ -19,13 +20,11 @@ pub mod same;
 pub mod settle;
 pub mod start;
 
-// What filling the tables of a bundle answers.
+// The tables of a bundle are filled: E, R and N, and the number of rounds over the held credentials.
 #[derive(Clone, Copy)]
-pub enum Filled {
-    // E, R and N, and the number of rounds over the held credentials.
-    Rounds { sizes: Sizes, rounds: u16 },
-    // The reader's refusal, or 8 where a table is too short.
-    Refused { number: u8, place: u16 },
+pub struct Filled {
+    pub sizes: Sizes,
+    pub rounds: u16,
 }
 
 // The table with some roles open, from the one with nothing open and its rounds: where none is open the two are the same.
@@ -59,16 +58,13 @@ fn fill_accepted(
     names: u32,
     sure: &mut [u32],
     possible: &mut [u32],
-) -> Filled
+) -> Result<Filled, Refusal<u16>>
     requires { Accepts bundle.now sizes }
     ensures { TablesWith (open_names names bundle.now) bundle.now (tables sure.old possible.old)
         (tables sure.new possible.new) result }
 {
     if (sure.len() < Table::WORDS) | (possible.len() < Table::WORDS) {
-        return Filled::Refused {
-            number: 8,
-            place: 0,
-        };
+        return Err(Cause::Memory.at(0));
     }
     let nothing = OpenRoles {
         entities: 0,
@@ -77,36 +73,28 @@ fn fill_accepted(
     let rounds = fill_table(bundle, sizes, nothing, sure);
     let open = opened(bundle, sizes.entities, names);
     fill_open(bundle, sizes, open, rounds, sure, possible);
-    Filled::Rounds {
+    Ok(Filled {
         sizes,
         rounds: rounds as u16,
-    }
+    })
 }
 
 // The tables of every bundle, in all lent words, where any absent shelf opens the names in a word.
-pub fn fill_opening(bundle: &[u8], names: u32, sure: &mut [u32], possible: &mut [u32]) -> Filled
+pub fn fill_opening(
+    bundle: &[u8],
+    names: u32,
+    sure: &mut [u32],
+    possible: &mut [u32],
+) -> Result<Filled, Refusal<u16>>
     ensures { TablesWith (open_names names bundle.now) bundle.now (tables sure.old possible.old)
         (tables sure.new possible.new) result }
 {
-    let reading = read(bundle);
-    let Reading::Accepted(sizes) = reading else {
-        match reading {
-            Reading::Refused { number, place } => {
-                return Filled::Refused { number, place };
-            }
-            Reading::Accepted(_) => {
-                return Filled::Refused {
-                    number: 0,
-                    place: 0,
-                };
-            }
-        }
-    };
+    let sizes = read(bundle)?;
     fill_accepted(bundle, sizes, names, sure, possible)
 }
 
 // The same where an absent shelf opens its own roles alone.
-pub fn fill(bundle: &[u8], sure: &mut [u32], possible: &mut [u32]) -> Filled
+pub fn fill(bundle: &[u8], sure: &mut [u32], possible: &mut [u32]) -> Result<Filled, Refusal<u16>>
     ensures { TablesPromise bundle.now (tables sure.old possible.old)
         (tables sure.new possible.new) result }
 {

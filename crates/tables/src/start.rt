@@ -22,10 +22,12 @@ pub struct OpenRoles {
 fn is_absent(bundle: &[u8], entity: usize) -> bool
     ensures { result ≡ is_absent (shelves bundle.now entity) }
 {
-    match mark_at(bundle, entity) {
+    let Some(mark) = mark_at(bundle, entity) else {
+        return false;
+    };
+    match mark {
         Mark::Present => false,
         Mark::Absent => true,
-        Mark::Unmarked => false,
     }
 }
 

@@ -7,7 +7,8 @@ ghost use Rattle.lists.specs.Promise.{length_of};
 ghost use Rattle.tables.specs.Promise.{tables, rounds_of};
 ghost use Rattle.timed.specs.Given.{TablesRounds, MembersLength, RolesLength};
 
-use lists::{Listed, members, roles};
+use base::refusal::Refusal;
+use lists::{members, roles};
 use tables::{Filled, fill};
 
 // The rounds of the tables, 0 for a refusal.
@@ -20,28 +21,22 @@ pub extern "C" fn timed_tables(bundle: &[u8], sure: &mut [u32], possible: &mut [
 }
 
 // The rounds that an answer says.
-fn rounds_of(filled: Filled) -> u64
+fn rounds_of(filled: Result<Filled, Refusal<u16>>) -> u64
     ensures { result ≡ rounds_of filled }
 {
     match filled {
-        Filled::Rounds { sizes: _, rounds } => rounds as u64,
-        Filled::Refused {
-            number: _,
-            place: _,
-        } => 0,
+        Ok(filled) => filled.rounds as u64,
+        Err(_) => 0,
     }
 }
 
 // The length that an answer says.
-fn length_of(listed: Listed) -> u64
+fn length_of(listed: Result<usize, Refusal<u16>>) -> u64
     ensures { result ≡ length_of listed }
 {
     match listed {
-        Listed::Length(n) => n as u64,
-        Listed::Refused {
-            number: _,
-            place: _,
-        } => 0,
+        Ok(length) => length as u64,
+        Err(_) => 0,
     }
 }
 

@@ -1,8 +1,10 @@
 -- What is promised with a sheet determines as much as what is promised without: of the tables everything, and of the search everything but which
 -- lines a written slip has and how many.
+use Rattle.std.specs.Prelude.{Result}
 use Prim.Native.Nat.{ℕ}
 use native.Mathlib.Omega.{arith}
 use mathlib.Core.List.{List, [], ◌∷◌}
+use Rattle.base.specs.declared.refusal.Refusal.{Refusal}
 use Rattle.base.specs.Refusals.{Row, AllOnePlace, AllNumbered}
 use Rattle.base.proofs.Refusals.{clear_first, one_place_both, numbered_both, zero_place}
 use Rattle.bundle.specs.declared.question.Question.{Question}
@@ -33,7 +35,7 @@ module _ (bytes sheet : List ℕ) where
     numbers : AllNumbered later → AllNumbered (rows_with bytes sheet later)
     numbers s = numbered_both (reader_rows bytes) behind (reader_numbers bytes) (omega arith, s)
 
-  pub sheet_tables_determined : (before after_one after_two : Tables) (one two : Filled) → SheetTables bytes sheet before after_one one
+  pub sheet_tables_determined : (before after_one after_two : Tables) (one two : Result Filled (Refusal ℕ)) → SheetTables bytes sheet before after_one one
       → SheetTables bytes sheet before after_two two → Same one after_one two after_two
   sheet_tables_determined before after_one after_two one two =
       let later = short_row before ∷ [] in

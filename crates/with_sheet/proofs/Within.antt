@@ -1,4 +1,5 @@
 -- Only the roles of a bundle count: where two tests of open roles agree on these, what is promised by one is promised by the other.
+use Rattle.std.specs.Prelude.{Result}
 use Prim.Native.Nat.{ℕ}
 use mathlib.Core.Path.{sym}
 use mathlib.Core.List.{List, [], ◌∷◌}
@@ -6,6 +7,7 @@ use Rattle.rt0.specs.Membership.{Assignment}
 use Rattle.rt0.specs.Completion.{Open, Completable}
 use Rattle.rt0.proofs.Possible.{SameWithin, completable_within, answers_within}
 use Rattle.rt0.proofs.Shown.{shows_as}
+use Rattle.base.specs.declared.refusal.Refusal.{Refusal}
 use Rattle.base.specs.Refusals.{Clear, refused, passed}
 use Rattle.base.proofs.Refusals.{clear_first}
 use Rattle.bundle.specs.declared.question.Question.{Question}
@@ -61,7 +63,7 @@ module _ (bytes : List ℕ) (is_open other : Open) (agree : Agree bytes is_open 
           slip = a.slip;
         }
 
-  pub tables_within : (before after : Tables) (o : Filled) → TablesWith is_open bytes before after o → TablesWith other bytes before after o
+  pub tables_within : (before after : Tables) (o : Result Filled (Refusal ℕ)) → TablesWith is_open bytes before after o → TablesWith other bytes before after o
   tables_within before after o (refused d k) = refused d k
   tables_within before after o (passed z p c g) =
       passed z p c (record { sizes = g.sizes; filled = filled_within (clear_first (reader_rows bytes) (short_row before ∷ []) c) g.filled })

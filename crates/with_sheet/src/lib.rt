@@ -11,9 +11,10 @@ ghost use Rattle.with_sheet.specs.Open.{loose_word};
 ghost use Rattle.with_sheet.specs.Promise.{SheetTables, SheetSearch};
 
 use answers::Answer;
+use base::refusal::{Cause, Refusal};
 use bundle::edition::Edition;
 use bundle::question::Question;
-use bundle::read::{Reading, read, sizes_of};
+use bundle::read::{read, sizes_of};
 use search::search_opening;
 use sheet::{code_of, right};
 use tables::{Filled, fill_opening};
@@ -38,7 +39,7 @@ pub fn fill_with_sheet(
     sheet: &[u8],
     sure: &mut [u32],
     possible: &mut [u32],
-) -> Filled
+) -> Result<Filled, Refusal<u16>>
     ensures { SheetTables bundle.now sheet.now (tables sure.old possible.old)
         (tables sure.new possible.new) result }
 {
@@ -46,13 +47,8 @@ pub fn fill_with_sheet(
     if right(sheet, sizes.names) {
         return fill_opening(bundle, loose_names(sheet), sure, possible);
     }
-    match read(bundle) {
-        Reading::Refused { number, place } => Filled::Refused { number, place },
-        Reading::Accepted(_) => Filled::Refused {
-            number: 15,
-            place: 0,
-        },
-    }
+    read(bundle)?;
+    Err(Cause::Sheet.at(0))
 }
 
 // The answer to every bundle, sheet, question and memory.
@@ -63,7 +59,7 @@ pub fn search_with_sheet(
     sure: &mut [u32],
     possible: &mut [u32],
     slip: &mut [u8],
-) -> Answer
+) -> Result<Answer, Refusal<u16>>
     ensures { SheetSearch bundle.now sheet.now question
         (lent sure.old possible.old slip.old)
         (lent sure.new possible.new slip.new) (outcome_of result) }
@@ -72,11 +68,6 @@ pub fn search_with_sheet(
     if right(sheet, sizes.names) {
         return search_opening(bundle, loose_names(sheet), question, sure, possible, slip);
     }
-    match read(bundle) {
-        Reading::Refused { number, place } => Answer::Refused { number, place },
-        Reading::Accepted(_) => Answer::Refused {
-            number: 15,
-            place: 0,
-        },
-    }
+    read(bundle)?;
+    Err(Cause::Sheet.at(0))
 }

@@ -1,5 +1,6 @@
 -- What the functions answer at every input is RT0's own where the role or the record is valid: the word of a role, the number of a
 -- head's word, what one use of a record gives, and the words after it.
+use Rattle.std.specs.Prelude.{Option, Some, None}
 use Prim.Native.Nat.{ℕ, zero, suc, ◌<◌, ◌≤◌, min}
 use native.Mathlib.Nat.{le_refl}
 use native.Mathlib.Omega.{arith}
@@ -15,8 +16,6 @@ use Rattle.rt0.proofs.Least.{valid_head}
 use Rattle.records.specs.declared.form.Role.{Role}
 use Rattle.records.specs.declared.form.Record.{Record}
 use Rattle.records.specs.declared.form.Record.TheVariants as variant
-use Rattle.records.specs.declared.form.Head.{Head}
-use Rattle.records.specs.declared.form.Head.TheVariants.{Of, Nothing}
 use Rattle.records.specs.Form.{role_of, head_of, head_role, credential_of}
 use Rattle.records.proofs.Heads.{head_credential}
 use Rattle.base.specs.Range.{outside}
@@ -66,54 +65,54 @@ link_valid ws w r2 i (suc n) l = rw (link_valid ws w r2 i n (omega arith), word_
 -- ---- records
 
 -- the word of a head
-head_word_lem : (h : Head) (ρ : RT0Role) → head_role h ≡ some ρ → ValidRole most_entities width ρ → head_word h ≡ place width ρ
-head_word_lem (Of h) ρ e v =
+head_word_lem : (h : Option Role) (ρ : RT0Role) → head_role h ≡ some ρ → ValidRole most_entities width ρ → head_word h ≡ place width ρ
+head_word_lem (Some h) ρ e v =
     let same : role_of h ≡ ρ = some-injective _ ρ e in
     place_valid (role_of h) (subst (ValidRole most_entities width) (sym same) v) ∙ ap (place width) same
-head_word_lem Nothing ρ e v = absurd (none-ne-some ρ e)
+head_word_lem None ρ e v = absurd (none-ne-some ρ e)
 
 -- the word of the head that a record has
-pub head_found : (k : Record) (h : Head) (n : ℕ) → h ≡ head_of k → n ≡ head_word h → n ≡ head_place k
+pub head_found : (k : Option Record) (h : Option Role) (n : ℕ) → h ≡ head_of k → n ≡ head_word h → n ≡ head_place k
 head_found k h n e f = f ∙ ap head_word e
 
 module _ {E : ℕ} (e : E ≤ most_entities) where
   wide : (ρ : RT0Role) → ValidRole E width ρ → ValidRole most_entities width ρ
   wide = role_wider e (le_refl width)
 
-  pub head_valid : (k : Record) (c : Credential) → credential_of k ≡ some c → Valid E width c → head_place k ≡ place width (head c)
+  pub head_valid : (k : Option Record) (c : Credential) → credential_of k ≡ some c → Valid E width c → head_place k ≡ place width (head c)
   head_valid k c q v = head_word_lem (head_of k) (head c) (head_credential k ∙ rw q) (wide (head c) (valid_head E width c v))
 
   module _ (ws : List ℕ) where
     part : (ρ : Role) → ValidRole E width (role_of ρ) → word_of ws ρ.entity ρ.name ≡ word_at width ws (role_of ρ)
     part ρ v = word_valid ws (role_of ρ) (wide (role_of ρ) v)
 
-    abbrev Gives : Record → Credential → Type 0
+    abbrev Gives : Option Record → Credential → Type 0
     Gives k c = Valid E width c → give_of E ws k ≡ give_word E width ws c
 
-    link_form : (h : Role) (r1 r2 : ℕ) → Gives (variant.Link h r1 r2) (role_of h ⟵ link r1 r2)
+    link_form : (h : Role) (r1 r2 : ℕ) → Gives (Some (variant.Link h r1 r2)) (role_of h ⟵ link r1 r2)
     unfolding give_of give_word
     link_form h r1 r2 v =
         let least : min E most_entities ≡ E = omega arith in
         let (entity, name) = wide (h.entity · r1) (v.0.0, v.1.0) in
         rw (least, word_valid ws (h.entity · r1) (entity, name), link_valid ws (word_at width ws (h.entity · r1)) r2 v.1.1 E e)
 
-    pub give_valid : (k : Record) (c : Credential) → credential_of k ≡ some c → Valid E width c → give_of E ws k ≡ give_word E width ws c
+    pub give_valid : (k : Option Record) (c : Credential) → credential_of k ≡ some c → Valid E width c → give_of E ws k ≡ give_word E width ws c
     unfolding give_of give_word single_of meet_word
-    give_valid (variant.Entity h B) c q = subst (Gives (variant.Entity h B)) (some-injective _ c q)
+    give_valid (Some (variant.Entity h B)) c q = subst (Gives (Some (variant.Entity h B))) (some-injective _ c q)
         (λ v. rw (inside_flag most_entities B v.1.above (omega arith)))
-    give_valid (variant.Role h ρ) c q = subst (Gives (variant.Role h ρ)) (some-injective _ c q) (λ v. part ρ v.1)
-    give_valid (variant.Link h r1 r2) c q = subst (Gives (variant.Link h r1 r2)) (some-injective _ c q) (link_form h r1 r2)
-    give_valid (variant.TwoParts h ρ σ) c q = subst (Gives (variant.TwoParts h ρ σ)) (some-injective _ c q) (λ v.
+    give_valid (Some (variant.Role h ρ)) c q = subst (Gives (Some (variant.Role h ρ))) (some-injective _ c q) (λ v. part ρ v.1)
+    give_valid (Some (variant.Link h r1 r2)) c q = subst (Gives (Some (variant.Link h r1 r2))) (some-injective _ c q) (link_form h r1 r2)
+    give_valid (Some (variant.TwoParts h ρ σ)) c q = subst (Gives (Some (variant.TwoParts h ρ σ))) (some-injective _ c q) (λ v.
         rw (part ρ (v.1.2 (role_of ρ) (Memᴰ.head refl)), part σ (v.1.2 (role_of σ) (Memᴰ.tail (Memᴰ.head refl)))))
-    give_valid (variant.ThreeParts h ρ σ τ) c q = subst (Gives (variant.ThreeParts h ρ σ τ)) (some-injective _ c q) (λ v.
+    give_valid (Some (variant.ThreeParts h ρ σ τ)) c q = subst (Gives (Some (variant.ThreeParts h ρ σ τ))) (some-injective _ c q) (λ v.
         rw (
           part ρ (v.1.2 (role_of ρ) (Memᴰ.head refl)),
           part σ (v.1.2 (role_of σ) (Memᴰ.tail (Memᴰ.head refl))),
           part τ (v.1.2 (role_of τ) (Memᴰ.tail (Memᴰ.tail (Memᴰ.head refl)))),
         ))
-    give_valid variant.Nothing c q = absurd (none-ne-some c q)
+    give_valid None c q = absurd (none-ne-some c q)
 
-    pub use_valid : (acc : List ℕ) (k : Record) (c : Credential) → credential_of k ≡ some c → Valid E width c
+    pub use_valid : (acc : List ℕ) (k : Option Record) (c : Credential) → credential_of k ≡ some c → Valid E width c
         → use_record E ws acc k ≡ use_word E width ws acc c
     unfolding use_word
     use_valid acc k c q v = rw (head_valid k c q v, give_valid k c q v)

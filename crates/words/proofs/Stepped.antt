@@ -1,5 +1,6 @@
 -- The step of a record has the number of its head's word and gives what the record gives; so one use of each step of an accepted bundle is
 -- a round over the credentials that it holds.
+use Rattle.std.specs.Prelude.{Option, Some, None}
 use Prim.Native.Nat.{ℕ, zero, suc, ◌+◌, ◌*◌, ◌/◌, ◌%◌, ◌<◌, ◌≤◌, min}
 use native.Mathlib.Numerals.{add-one}
 use native.Mathlib.Omega.{arith}
@@ -155,42 +156,42 @@ module _ (E : ℕ) (ws : List ℕ) (l : length ws ≤ table_words) where
   told : (form : ℕ) (h : Role) (one two three : ℕ) {word : ℕ} → form < step_part → Told form h one two three word
   told form h one two three f e = gives_part form _ one two three f (small h.entity h.name) ∙ e
 
-  pub step_gives_lem : (k : Record) → step_gives E ws (step_of k) ≡ give_of E ws k
+  pub step_gives_lem : (k : Option Record) → step_gives E ws (step_of k) ≡ give_of E ws k
   unfolding step_of give_of
-  step_gives_lem (variant.Entity h B) =
+  step_gives_lem (Some (variant.Entity h B)) =
       told 1 h (among most_entities B) 0 0 (omega arith)
       (gives_single E ws (among most_entities B) 0 0 (omega (arith, among_most most_entities B)) (omega arith) ∙ single_among B)
-  step_gives_lem (variant.Role h ρ) =
+  step_gives_lem (Some (variant.Role h ρ)) =
       told 2 h (place_of ρ.entity ρ.name) 0 0 (omega arith)
       (gives_role E ws (place_of ρ.entity ρ.name) 0 0 (small ρ.entity ρ.name) (omega arith) ∙ by_place ws l ρ.entity ρ.name)
-  step_gives_lem (variant.Link h r1 r2) =
+  step_gives_lem (Some (variant.Link h r1 r2)) =
       told 3 h (place_of h.entity r1) (among width r2) 0 (omega arith)
       (gives_link E ws (place_of h.entity r1) (among width r2) 0 (small h.entity r1) (omega (arith, among_most width r2))
       ∙ rw (by_place ws l h.entity r1) (link_among ws (word_of ws h.entity r1) r2 (min E most_entities)))
-  step_gives_lem (variant.TwoParts h ρ σ) =
+  step_gives_lem (Some (variant.TwoParts h ρ σ)) =
       told 4 h (place_of ρ.entity ρ.name) (place_of σ.entity σ.name) 0 (omega arith)
       (gives_two E ws (place_of ρ.entity ρ.name) (place_of σ.entity σ.name) 0 (small ρ.entity ρ.name) (small σ.entity σ.name)
       ∙ rw (by_place ws l ρ.entity ρ.name, by_place ws l σ.entity σ.name))
-  step_gives_lem (variant.ThreeParts h ρ σ τ) =
+  step_gives_lem (Some (variant.ThreeParts h ρ σ τ)) =
       told 5 h (place_of ρ.entity ρ.name) (place_of σ.entity σ.name) (place_of τ.entity τ.name) (omega arith)
       (gives_three E ws (place_of ρ.entity ρ.name) (place_of σ.entity σ.name) (place_of τ.entity τ.name) (small ρ.entity ρ.name)
       (small σ.entity σ.name)
       ∙ rw (by_place ws l ρ.entity ρ.name, by_place ws l σ.entity σ.name, by_place ws l τ.entity τ.name))
-  step_gives_lem variant.Nothing = gives_nothing E ws
+  step_gives_lem None = gives_nothing E ws
 
-pub step_place : (k : Record) → head_in (step_of k) ≡ head_place k
+pub step_place : (k : Option Record) → head_in (step_of k) ≡ head_place k
 unfolding step_of
-step_place (variant.Entity h B) = head_part 1 _ (among most_entities B) 0 0 (omega arith) (small h.entity h.name)
-step_place (variant.Role h ρ) = head_part 2 _ (place_of ρ.entity ρ.name) 0 0 (omega arith) (small h.entity h.name)
-step_place (variant.Link h r1 r2) = head_part 3 _ (place_of h.entity r1) (among width r2) 0 (omega arith) (small h.entity h.name)
-step_place (variant.TwoParts h ρ σ) =
+step_place (Some (variant.Entity h B)) = head_part 1 _ (among most_entities B) 0 0 (omega arith) (small h.entity h.name)
+step_place (Some (variant.Role h ρ)) = head_part 2 _ (place_of ρ.entity ρ.name) 0 0 (omega arith) (small h.entity h.name)
+step_place (Some (variant.Link h r1 r2)) = head_part 3 _ (place_of h.entity r1) (among width r2) 0 (omega arith) (small h.entity h.name)
+step_place (Some (variant.TwoParts h ρ σ)) =
     head_part 4 _ (place_of ρ.entity ρ.name) (place_of σ.entity σ.name) 0 (omega arith) (small h.entity h.name)
-step_place (variant.ThreeParts h ρ σ τ) =
+step_place (Some (variant.ThreeParts h ρ σ τ)) =
     head_part 5 _ (place_of ρ.entity ρ.name) (place_of σ.entity σ.name) (place_of τ.entity τ.name) (omega arith) (small h.entity h.name)
-step_place variant.Nothing = refl
+step_place None = refl
 
 -- one use of a record's step is one use of the record
-pub step_use : (E : ℕ) (ws : List ℕ) → length ws ≤ table_words → (acc : List ℕ) (k : Record) → use_step E ws acc (step_of k) ≡ use_record E ws acc k
+pub step_use : (E : ℕ) (ws : List ℕ) → length ws ≤ table_words → (acc : List ℕ) (k : Option Record) → use_step E ws acc (step_of k) ≡ use_record E ws acc k
 step_use E ws l acc k = rw (step_place k, step_gives_lem E ws l k)
 
 -- ---- steps used one after the other

@@ -1,6 +1,6 @@
 -- A record as the rounds use it: a step, one number that has the record's form, the number of its head's word, and what its body names.
 -- A bundle's steps are worked out once; the rounds read them again and again.
-use Rattle.std.specs.Prelude.{ℕ, zero, suc, ◌+◌, ◌*◌, ◌/◌, ◌%◌, ◌<◌, min, ◌≡◌, cond, List, length, get_or, set, eqb}
+use Rattle.std.specs.Prelude.{ℕ, zero, suc, ◌+◌, ◌*◌, ◌/◌, ◌%◌, ◌<◌, min, ◌≡◌, cond, List, length, get_or, set, eqb, Option, Some, None}
 use Rattle.std.specs.Int.Bits.{bit_and, bit_or}
 use Rattle.base.specs.Range.{outside}
 use Rattle.records.specs.declared.form.Record.{Record}
@@ -39,15 +39,15 @@ three_in body = body / step_part / step_part
 unfoldable pub among : ℕ → ℕ → ℕ
 among most n = cond (outside most n) 0 n
 
-unfoldable pub step_of : Record → ℕ
-step_of (variant.Entity h B) = step_with 1 (place_of h.entity h.name) (among most_entities B) 0 0
-step_of (variant.Role h ρ) = step_with 2 (place_of h.entity h.name) (place_of ρ.entity ρ.name) 0 0
-step_of (variant.Link h r1 r2) = step_with 3 (place_of h.entity h.name) (place_of h.entity r1) (among width r2) 0
-step_of (variant.TwoParts h ρ σ) =
+unfoldable pub step_of : Option Record → ℕ
+step_of (Some (variant.Entity h B)) = step_with 1 (place_of h.entity h.name) (among most_entities B) 0 0
+step_of (Some (variant.Role h ρ)) = step_with 2 (place_of h.entity h.name) (place_of ρ.entity ρ.name) 0 0
+step_of (Some (variant.Link h r1 r2)) = step_with 3 (place_of h.entity h.name) (place_of h.entity r1) (among width r2) 0
+step_of (Some (variant.TwoParts h ρ σ)) =
     step_with 4 (place_of h.entity h.name) (place_of ρ.entity ρ.name) (place_of σ.entity σ.name) 0
-step_of (variant.ThreeParts h ρ σ τ) =
+step_of (Some (variant.ThreeParts h ρ σ τ)) =
     step_with 5 (place_of h.entity h.name) (place_of ρ.entity ρ.name) (place_of σ.entity σ.name) (place_of τ.entity τ.name)
-step_of variant.Nothing = step_with 0 table_words 0 0 0
+step_of None = step_with 0 table_words 0 0 0
 
 -- steps are those of the first n records of a bundle
 abbrev pub Stepped : List ℕ → ℕ → List ℕ → Type 0

@@ -49,9 +49,12 @@ fn step_with(form: usize, head: usize, one: usize, two: usize, three: usize) -> 
 }
 
 // The step of a record.
-fn step_of(record: Record) -> usize
+fn step_of(record: Option<Record>) -> usize
     ensures { result ≡ step_of «record» }
 {
+    let Some(record) = record else {
+        return step_with(0, Table::WORDS, 0, 0, 0);
+    };
     match record {
         Record::Entity { head, entity } => {
             step_with(1, role_place(head), among(Table::ENTITIES, entity), 0, 0)
@@ -86,7 +89,6 @@ fn step_of(record: Record) -> usize
             let third = role_place(three);
             step_with(5, role_place(head), role_place(one), role_place(two), third)
         }
-        Record::Nothing => step_with(0, Table::WORDS, 0, 0, 0),
     }
 }
 

@@ -1,4 +1,5 @@
 -- From the stages' answer to the promise: what a refusal keeps, what is written otherwise, and what the table says where it lets a call pass.
+use Rattle.std.specs.Prelude.{Result, Ok, Err}
 use Prim.Native.Nat.{ℕ, suc, ◌+◌, ◌*◌, ◌%◌, ◌<◌, ◌≤◌}
 use mathlib.Core.Path.{◌≡◌, refl, sym, ap, ◌∙◌, subst}
 use mathlib.Core.Bool.{false}
@@ -8,6 +9,8 @@ use native.Mathlib.Decide.{dec_lt, ℕ_discrete}
 use native.Mathlib.Omega.{arith}
 use lib.ListN.{length, take, length-take, get_or-eq_default}
 use lib.Seq.{get_or-take}
+use Rattle.base.specs.declared.refusal.Refusal.{Refusal}
+use Rattle.base.specs.Refused.{refusal_at}
 use Rattle.base.specs.Byte.{byte_at}
 use Rattle.base.specs.Refusals.{Row, AllNumbered, Clear, refused, passed}
 use Rattle.base.proofs.Flags.{or_false, not_true_false, inside}
@@ -23,43 +26,41 @@ use Rattle.content.specs.InPlace.{StartsWith, PutLast}
 use Rattle.content.proofs.Whole.{Small, count_said, size_said, one_encoding, byte_encode, valid_content}
 use Rattle.content.proofs.Appending.{count_added, valid_added}
 use Rattle.content.proofs.Listed.{count_given, record_given, twelve_given}
-use Rattle.writer.specs.declared.answer.Wrote.{Wrote}
-use Rattle.writer.specs.declared.answer.Wrote.TheVariants.{Length, Refused}
 use Rattle.writer.specs.Rows.{JudgedAs, head_wrong, list_rows, room_rows, new_rows, write_rows, front_records, append_rows}
 use Rattle.writer.specs.Promise.{Leaves, Writes, longer, Appends}
 use Rattle.writer.proofs.Tables.{head_tells, clear_list, room_clear, new_clear, write_numbers, append_numbers}
 
 -- a refusal is handed on, and nothing was touched
-leaves_refused : (rows : List Row) (c : Content) (before : List ℕ) (n p m : ℕ) → 1 ≤ m → JudgedAs rows (Refused n p) m
-    → Leaves rows c before (Refused n p) before
+leaves_refused : (rows : List Row) (c : Content) (before : List ℕ) (n p m : ℕ) → 1 ≤ m → JudgedAs rows (Err (refusal_at n p)) m
+    → Leaves rows c before (Err (refusal_at n p)) before
 leaves_refused rows c before n p m l (refused d k) = refused d (refl, refl)
 leaves_refused rows c before n p m l (passed _ _ _ e) = absurd (omega arith)
 
 -- a length, where the content was written
-leaves_written : (rows : List Row) → AllNumbered rows → (c : Content) (before after : List ℕ) (k m : ℕ) → m ≡ size_of c → JudgedAs rows (Length k) m
-    → after ≡ written c before → Leaves rows c before (Length k) after
+leaves_written : (rows : List Row) → AllNumbered rows → (c : Content) (before after : List ℕ) (k m : ℕ) → m ≡ size_of c → JudgedAs rows (Ok k) m
+    → after ≡ written c before → Leaves rows c before (Ok k) after
 leaves_written rows numbered c before after k m same (refused d _) e = absurd (omega (arith, due_number rows numbered 0 0 d))
 leaves_written rows numbered c before after k m same (passed z q d g) e = passed z q d (g ∙ same, e)
 
 -- the same of an answer that was looked at
-leaves_handed : (rows : List Row) (c : Content) (before : List ℕ) (r : Wrote) (n p m : ℕ) → 1 ≤ m → r ≡ Refused n p → JudgedAs rows r m
+leaves_handed : (rows : List Row) (c : Content) (before : List ℕ) (r : Result ℕ (Refusal ℕ)) (n p m : ℕ) → 1 ≤ m → r ≡ Err (refusal_at n p) → JudgedAs rows r m
     → Leaves rows c before r before
 leaves_handed rows c before r n p m l e h =
-    subst (λ (x : Wrote). Leaves rows c before x before) (sym e) (leaves_refused rows c before n p m l (subst (λ (x : Wrote). JudgedAs rows x m) e h))
+    subst (λ (x : Result ℕ (Refusal ℕ)). Leaves rows c before x before) (sym e) (leaves_refused rows c before n p m l (subst (λ (x : Result ℕ (Refusal ℕ)). JudgedAs rows x m) e h))
 
-leaves_length : (rows : List Row) → AllNumbered rows → (c : Content) (before after : List ℕ) (r : Wrote) (k m : ℕ) → r ≡ Length k → m ≡ size_of c
+leaves_length : (rows : List Row) → AllNumbered rows → (c : Content) (before after : List ℕ) (r : Result ℕ (Refusal ℕ)) (k m : ℕ) → r ≡ Ok k → m ≡ size_of c
     → JudgedAs rows r m → after ≡ written c before → Leaves rows c before r after
 leaves_length rows numbered c before after r k m e same h w =
-    subst (λ (x : Wrote). Leaves rows c before x after) (sym e)
-    (leaves_written rows numbered c before after k m same (subst (λ (x : Wrote). JudgedAs rows x m) e h) w)
+    subst (λ (x : Result ℕ (Refusal ℕ)). Leaves rows c before x after) (sym e)
+    (leaves_written rows numbered c before after k m same (subst (λ (x : Result ℕ (Refusal ℕ)). JudgedAs rows x m) e h) w)
 
 -- no row applies where a length is answered
-length_clear : (rows : List Row) → AllNumbered rows → (k m : ℕ) → JudgedAs rows (Length k) m → Clear rows
+length_clear : (rows : List Row) → AllNumbered rows → (k m : ℕ) → JudgedAs rows (Ok k) m → Clear rows
 length_clear rows numbered k m (refused d _) = absurd (omega (arith, due_number rows numbered 0 0 d))
 length_clear rows numbered k m (passed _ _ c _) = c
 
-passed_clear : (rows : List Row) → AllNumbered rows → (r : Wrote) (k m : ℕ) → r ≡ Length k → JudgedAs rows r m → Clear rows
-passed_clear rows numbered r k m e h = length_clear rows numbered k m (subst (λ (x : Wrote). JudgedAs rows x m) e h)
+passed_clear : (rows : List Row) → AllNumbered rows → (r : Result ℕ (Refusal ℕ)) (k m : ℕ) → r ≡ Ok k → JudgedAs rows r m → Clear rows
+passed_clear rows numbered r k m e h = length_clear rows numbered k m (subst (λ (x : Result ℕ (Refusal ℕ)). JudgedAs rows x m) e h)
 
 -- A new bundle.
 
@@ -104,17 +105,17 @@ pub given_size : (E R : ℕ) (marks list : List ℕ) → 512 * blocks_for (whole
 given_size E R marks list = rw count_given refl
 
 -- the stages' answer, handed on; what it lets pass; and the promise where all blocks were written
-module _ (E R : ℕ) (marks list before : List ℕ) (r : Wrote)
+module _ (E R : ℕ) (marks list before : List ℕ) (r : Result ℕ (Refusal ℕ))
     (h : JudgedAs (write_rows E R marks list (length before)) r (512 * blocks_for (whole_records list))) where
-  pub write_handed : (n p : ℕ) → r ≡ Refused n p → Writes E R marks list before r before
+  pub write_handed : (n p : ℕ) → r ≡ Err (refusal_at n p) → Writes E R marks list before r before
   write_handed n p e = leaves_handed (write_rows E R marks list (length before)) (content_from E R marks list) before r n p _ (omega arith) e h
 
-  pub write_let : (k : ℕ) → r ≡ Length k → WriteClear E R marks list (length before)
+  pub write_let : (k : ℕ) → r ≡ Ok k → WriteClear E R marks list (length before)
   write_let k e =
       write_clear E R marks list (length before)
       (passed_clear (write_rows E R marks list (length before)) (write_numbers E R marks list (length before)) r k _ e h)
 
-  pub write_filled : (k : ℕ) (after : List ℕ) → r ≡ Length k → after ≡ written (content_from E R marks list) before → Writes E R marks list before r after
+  pub write_filled : (k : ℕ) (after : List ℕ) → r ≡ Ok k → after ≡ written (content_from E R marks list) before → Writes E R marks list before r after
   write_filled k after e w =
       leaves_length (write_rows E R marks list (length before)) (write_numbers E R marks list (length before)) (content_from E R marks list) before after r k _ e
       (given_size E R marks list) h w
@@ -209,15 +210,15 @@ module _ (buffer : List ℕ) (n : ℕ) (bytes : List ℕ) (a : AppendClear buffe
       h (content_of front) (omega (arith, front_count, a.few)) a.twelve (starts small) (omega (arith, longer_size, a.room))
 
 -- the same of an append
-module _ (buffer : List ℕ) (n : ℕ) (bytes : List ℕ) (r : Wrote)
+module _ (buffer : List ℕ) (n : ℕ) (bytes : List ℕ) (r : Result ℕ (Refusal ℕ))
     (h : JudgedAs (append_rows buffer n bytes) r (512 * blocks_for (front_records buffer n + 1))) where
-  pub append_handed : (number place : ℕ) → r ≡ Refused number place → Appends buffer n bytes r buffer
+  pub append_handed : (number place : ℕ) → r ≡ Err (refusal_at number place) → Appends buffer n bytes r buffer
   append_handed number place e = leaves_handed (append_rows buffer n bytes) (longer buffer n bytes) buffer r number place _ (omega arith) e h
 
-  pub append_let : (k : ℕ) → r ≡ Length k → AppendClear buffer n bytes
+  pub append_let : (k : ℕ) → r ≡ Ok k → AppendClear buffer n bytes
   append_let k e = append_clear buffer n bytes (passed_clear (append_rows buffer n bytes) (append_numbers buffer n bytes) r k _ e h)
 
-  pub append_put : (k : ℕ) (after : List ℕ) → r ≡ Length k → Small buffer → PutLast buffer bytes after → Appends buffer n bytes r after
+  pub append_put : (k : ℕ) (after : List ℕ) → r ≡ Ok k → Small buffer → PutLast buffer bytes after → Appends buffer n bytes r after
   append_put k after e small put =
       let clear = append_let k e in
       leaves_length (append_rows buffer n bytes) (append_numbers buffer n bytes) (longer buffer n bytes) buffer after r k _ e

@@ -1,5 +1,6 @@
 -- What the promises come to. The bundle that was written is accepted, and holds what was given. An append keeps E, R and every credential
 -- and puts one more last, in the real bytes of the buffer; it keeps every byte but those of two blocks. And so do any number of appends.
+use Rattle.std.specs.Prelude.{Ok}
 use Prim.Native.Nat.{ℕ, ◌/◌, ◌≤◌}
 use mathlib.Core.Path.{◌≡◌, refl, sym, ap, ◌∙◌}
 use mathlib.Core.List.{List, [], ◌∷◌, ◌++◌, map, map-append, append-nil, append_assoc}
@@ -21,7 +22,6 @@ use Rattle.content.specs.Encode.{size_of, encode, written}
 use Rattle.content.proofs.Whole.{Small, count_said, sizes_for, read_back, marks_back, held_content, held_back}
 use Rattle.content.proofs.Written.{written_behind, length_written, front_written}
 use Rattle.content.proofs.Appending.{others_stay}
-use Rattle.writer.specs.declared.answer.Wrote.TheVariants.{Length}
 use Rattle.writer.specs.Rows.{write_rows, front_records, append_rows}
 use Rattle.writer.specs.Promise.{Leaves, Writes, longer, Appends}
 use Rattle.writer.specs.Appended.{Appended, no_more, one_more}
@@ -30,16 +30,16 @@ use Rattle.writer.proofs.Kept.{write_clear, AppendClear, append_clear, starts, l
 
 -- where a length is answered, no row applies and the buffer has the content at its front
 module _ (rows : List Row) (numbers : AllNumbered rows) (c : Content) (before after : List ℕ) (m : ℕ) where
-  done : Leaves rows c before (Length m) after → Clear rows × (m ≡ size_of c) × (after ≡ written c before)
+  done : Leaves rows c before (Ok m) after → Clear rows × (m ≡ size_of c) × (after ≡ written c before)
   done (refused d _) = absurd (omega (arith, due_number rows numbers 0 0 d))
   done (passed _ _ clear (e, w)) = (clear, e, w)
 
-  front_done : Leaves rows c before (Length m) after → take m after ≡ encode c
+  front_done : Leaves rows c before (Ok m) after → take m after ≡ encode c
   front_done h = let (_, e, w) = done h in rw (e, w) (front_written c before)
 
 -- A new bundle.
 
-module _ (E R : ℕ) (marks list before after : List ℕ) (m : ℕ) (h : Writes E R marks list before (Length m) after) where
+module _ (E R : ℕ) (marks list before after : List ℕ) (m : ℕ) (h : Writes E R marks list before (Ok m) after) where
   abbrev given : Content
   given = content_from E R marks list
 
@@ -70,7 +70,7 @@ module _ (E R : ℕ) (marks list before after : List ℕ) (m : ℕ) (h : Writes 
 
 -- One record more.
 
-module _ (before : List ℕ) (n : ℕ) (bytes after : List ℕ) (m : ℕ) (h : Appends before n bytes (Length m) after) where
+module _ (before : List ℕ) (n : ℕ) (bytes after : List ℕ) (m : ℕ) (h : Appends before n bytes (Ok m) after) where
   abbrev old : List ℕ
   old = take n before
 

@@ -1,10 +1,12 @@
 -- A refusal of the writer has a number. The place of a write is bounded by the records of the list, that of an append is at most 241.
+use Rattle.std.specs.Prelude.{Err}
 use Prim.Native.Nat.{ℕ, ◌+◌, ◌≤◌}
 use mathlib.Core.Path.{◌≡◌, refl}
 use mathlib.Core.Logic.{inl, inr, ⊎_elim}
 use mathlib.Core.List.{List, [], ◌∷◌, ◌++◌}
 use native.Mathlib.Omega.{arith}
 use lib.ListN.{length, take}
+use Rattle.base.specs.Refused.{refusal_at}
 use Rattle.base.specs.Refusals.{Row, FromOne, Due, Clear, AllNumbered, refused, passed}
 use Rattle.base.proofs.Refusals.{due_number, due_split}
 use Rattle.bundle.specs.Layout.{entities_of, names_of, sizes_in}
@@ -12,7 +14,6 @@ use Rattle.bundle.specs.Rows.{reader_rows}
 use Rattle.bundle.proofs.Accepted.{accepted_contents}
 use Rattle.bundle.proofs.Places.{reader_place}
 use Rattle.content.specs.Content.{Content, content_from, whole_records}
-use Rattle.writer.specs.declared.answer.Wrote.TheVariants.{Refused}
 use Rattle.writer.specs.Rows.{LowestListed, room_rows, write_rows, new_rows, front_records, append_rows}
 use Rattle.writer.specs.Promise.{Leaves, Writes, longer, Appends}
 use Rattle.writer.proofs.Tables.{write_numbers, append_numbers}
@@ -33,11 +34,11 @@ within_both most (r ∷ rs) ss (v, vs) w = (v, within_both most rs ss vs w)
 
 -- a refusal is one that is due
 module _ (rows : List Row) (numbers : AllNumbered rows) (c : Content) (before after : List ℕ) (number place : ℕ)
-    (h : Leaves rows c before (Refused number place) after) where
+    (h : Leaves rows c before (Err (refusal_at number place)) after) where
   its_due : Due rows number place
   its_due = by h
     where
-      by : Leaves rows c before (Refused number place) after → Due rows number place
+      by : Leaves rows c before (Err (refusal_at number place)) after → Due rows number place
       by (refused d _) = d
       by (passed _ _ _ (e, _)) = absurd (omega arith)
 
@@ -49,7 +50,7 @@ room_within most count size l = (λ p (e, _). omega arith, (λ p (e, _). omega a
 
 -- A new bundle.
 
-module _ (E R : ℕ) (marks list before after : List ℕ) (number place : ℕ) (h : Writes E R marks list before (Refused number place) after) where
+module _ (E R : ℕ) (marks list before after : List ℕ) (number place : ℕ) (h : Writes E R marks list before (Err (refusal_at number place)) after) where
   pub write_number : 1 ≤ number
   write_number =
       its_number (write_rows E R marks list (length before)) (write_numbers E R marks list (length before)) (content_from E R marks list) before after number place h
@@ -68,7 +69,7 @@ module _ (E R : ℕ) (marks list before after : List ℕ) (number place : ℕ) (
 
 -- One record more.
 
-module _ (before : List ℕ) (n : ℕ) (bytes after : List ℕ) (number place : ℕ) (h : Appends before n bytes (Refused number place) after) where
+module _ (before : List ℕ) (n : ℕ) (bytes after : List ℕ) (number place : ℕ) (h : Appends before n bytes (Err (refusal_at number place)) after) where
   pub append_number : 1 ≤ number
   append_number = its_number (append_rows before n bytes) (append_numbers before n bytes) (longer before n bytes) before after number place h
 

@@ -1,7 +1,8 @@
 -- The stages of the writer's tables: each answers at the first refusal that applies, and else hands on.
+use Rattle.std.specs.Prelude.{Result, Ok, Err, Option}
 use Prim.Native.Nat.{ℕ, suc, ◌+◌, ◌-◌, ◌*◌, ◌%◌, ◌<◌, ◌≤◌}
 use mathlib.Core.Path.{◌≡◌, refl, sym, ap, ◌∙◌, subst}
-use mathlib.Core.Bool.{Bool, true, false, not, ◌||◌}
+use mathlib.Core.Bool.{Bool, true, false, not, ◌||◌, true≢false}
 use mathlib.Core.Logic.{◌⊎◌, inl, inr}
 use mathlib.Core.List.{List, ◌++◌}
 use native.Mathlib.Decide.{dec_lt}
@@ -10,6 +11,8 @@ use native.Mathlib.Omega.{arith}
 use lib.ListN.{length, take, drop}
 use lib.Dec.{eqb, ltb}
 use borrow.Author.Tests.{ltb-false}
+use Rattle.base.specs.declared.refusal.Refusal.{Refusal}
+use Rattle.base.specs.Refused.{refusal_at}
 use Rattle.base.specs.Lowest.{LowestBelow, lowest}
 use Rattle.base.specs.Refusals.{Row, row, AtZero, FromOne, Applies, AllOnePlace, AllNumbered, Clear, Due, refused, passed}
 use Rattle.base.proofs.Parts.{found_part}
@@ -21,8 +24,6 @@ use Rattle.records.specs.Mistake.{SomeByte, mistake_rows, mistake_number, Mistak
 use Rattle.records.specs.declared.mistake.Mistake.{Mistake}
 use Rattle.records.proofs.Mistakes.{one_place, numbered, wrong_due, mistake_number_lem}
 use Rattle.bundle.specs.declared.read.Sizes.{Sizes}
-use Rattle.bundle.specs.declared.read.Reading.{Reading}
-use Rattle.bundle.specs.declared.read.Reading.TheVariants as reading
 use Rattle.bundle.specs.Edition.{most_names}
 use Rattle.bundle.specs.Layout.{entities_of, names_of, records_of, blocks_for}
 use Rattle.bundle.specs.Rows.{reader_rows, Reads, Accepts}
@@ -30,22 +31,19 @@ use Rattle.bundle.proofs.Refusals.{reader_places, reader_numbers, reads_accepted
 use Rattle.bundle.proofs.Accepted.{accepted_contents}
 use Rattle.bundle.proofs.Determined.{reads_refused}
 use Rattle.content.specs.Content.{most_entities, marks_wrong, listed, whole_records}
-use Rattle.writer.specs.declared.answer.Wrote.{Wrote}
-use Rattle.writer.specs.declared.judge.Flaw.{Flaw}
-use Rattle.writer.specs.declared.answer.Wrote.TheVariants.{Length, Refused}
-use Rattle.writer.specs.Rows.{JudgedAs, room_rows, wrong_listed, LowestListed, list_rows, FlawOf, HeadWrong, head_wrong, write_rows, new_rows, front_records, append_rows}
+use Rattle.writer.specs.Rows.{JudgedAs, room_rows, wrong_listed, LowestListed, list_rows, FlawBy, HeadWrong, head_wrong, write_rows, new_rows, front_records, append_rows}
 
 -- Both calls, at last: more than 240 records, and a buffer that is too short.
 
 module _ (count size : ℕ) where
-  pub room_many : 240 < count → JudgedAs (room_rows count size) (Refused 12 241) (512 * blocks_for count)
+  pub room_many : 240 < count → JudgedAs (room_rows count size) (Err (refusal_at 12 241)) (512 * blocks_for count)
   room_many l = refused (inl (refl, (refl, l))) refl
 
-  pub room_short : count ≤ 240 → size < 512 * blocks_for count → JudgedAs (room_rows count size) (Refused 13 0) (512 * blocks_for count)
+  pub room_short : count ≤ 240 → size < 512 * blocks_for count → JudgedAs (room_rows count size) (Err (refusal_at 13 0)) (512 * blocks_for count)
   room_short few l = refused (inr (λ (_, (_, many)). omega arith, inl (refl, (refl, l)))) refl
 
   pub room_enough : count ≤ 240 → 512 * blocks_for count ≤ size
-      → JudgedAs (room_rows count size) (Length (512 * blocks_for count)) (512 * blocks_for count)
+      → JudgedAs (room_rows count size) (Ok (512 * blocks_for count)) (512 * blocks_for count)
   room_enough few l = passed refl refl (λ (_, (_, many)). omega arith, (λ (_, (_, short)). omega arith, tt)) refl
 
   room_places : AllOnePlace (room_rows count size)
@@ -122,27 +120,25 @@ module _ (E R : ℕ) (list : List ℕ) where
 
   -- what the code found
   pub list_flaw : (i number : ℕ) → i ≡ lowest wrong (whole_records list) → i < whole_records list
-      → number ≡ kind_number (mistake_kind E R (listed list i)) → FlawOf E R list (record { number = number; place = i + 1 })
+      → number ≡ kind_number (mistake_kind E R (listed list i)) → FlawBy E R list number (i + 1) false
   list_flaw i number e l f =
       let there : LowestBelow wrong (whole_records list) i = rw e (lowest_there wrong (whole_records list) (rw (← e) l)) in
       refused (rw f (list_due i there)) tt
 
-  pub list_right : (i : ℕ) → i ≡ lowest wrong (whole_records list) → whole_records list ≤ i → FlawOf E R list (record { number = 0; place = 0 })
-  list_right i e l = passed refl refl (list_clear (λ j b. (lowest_is wrong (whole_records list)).missed j (omega (arith, e)))) tt
+  pub list_right : (i : ℕ) → i ≡ lowest wrong (whole_records list) → whole_records list ≤ i → FlawBy E R list 0 0 true
+  list_right i e l = passed refl refl (list_clear (λ j b. (lowest_is wrong (whole_records list)).missed j (omega (arith, e)))) refl
 
   -- a flaw in front of other rows, and none
-  pub list_refused : (ss : List Row) (m : ℕ) (flaw : Flaw) → FlawOf E R list flaw → (flaw.number ≡ 0 → ⊥)
-      → JudgedAs (list_rows E R list ++ ss) (Refused flaw.number flaw.place) m
-  list_refused ss m flaw h some =
-      let (d, _) = judged_refused (list_rows E R list) list_places list_numbers h (omega arith) in
-      refused (due_first (list_rows E R list) ss flaw.number flaw.place d) refl
+  pub list_refused : (ss : List Row) (m : ℕ) (why : Refusal ℕ) → FlawBy E R list why.number why.place false → JudgedAs (list_rows E R list ++ ss) (Err why) m
+  list_refused ss m why (refused d _) = refused (due_first (list_rows E R list) ss why.number why.place d) refl
+  list_refused ss m why (passed _ _ _ ok) = absurd (true≢false (sym ok))
 
-  pub list_none : (flaw : Flaw) → FlawOf E R list flaw → flaw.number ≡ 0 → Clear (list_rows E R list)
-  list_none flaw h e = (judged_given (list_rows E R list) list_places list_numbers h e).0
+  pub list_none : FlawBy E R list 0 0 true → Clear (list_rows E R list)
+  list_none h = (judged_given (list_rows E R list) list_places list_numbers h refl).0
 
-  pub list_passed : (ss : List Row) (m : ℕ) (flaw : Flaw) (r : Wrote) → FlawOf E R list flaw → flaw.number ≡ 0
+  pub list_passed : (ss : List Row) (m : ℕ) (r : Result ℕ (Refusal ℕ)) → FlawBy E R list 0 0 true
       → JudgedAs ss r m → JudgedAs (list_rows E R list ++ ss) r m
-  list_passed ss m flaw r h e j = judged_behind (list_rows E R list) ss (list_none flaw h e) j
+  list_passed ss m r h j = judged_behind (list_rows E R list) ss (list_none h) j
 
 -- A new bundle.
 
@@ -150,14 +146,14 @@ pub head_tells : (E R : ℕ) (marks : List ℕ) → Tells (head_wrong E R marks)
 head_tells E R marks = or_tells_three _ _ _ (outside_tells most_entities E) (outside_tells most_names R) (flag_tells (marks_wrong E marks))
 
 module _ (E R : ℕ) (marks list : List ℕ) (size : ℕ) where
-  pub write_cut : (length list % 12 ≡ 0 → ⊥) → JudgedAs (write_rows E R marks list size) (Refused 1 0) (512 * blocks_for (whole_records list))
+  pub write_cut : (length list % 12 ≡ 0 → ⊥) → JudgedAs (write_rows E R marks list size) (Err (refusal_at 1 0)) (512 * blocks_for (whole_records list))
   write_cut cut = refused (inl (refl, (refl, cut))) refl
 
   module _ (whole : length list % 12 ≡ 0) where
-    pub write_head : head_wrong E R marks ≡ true → JudgedAs (write_rows E R marks list size) (Refused 3 0) (512 * blocks_for (whole_records list))
+    pub write_head : head_wrong E R marks ≡ true → JudgedAs (write_rows E R marks list size) (Err (refusal_at 3 0)) (512 * blocks_for (whole_records list))
     write_head h = refused (inr (λ (_, (_, cut)). cut whole, inl (refl, (refl, (head_tells E R marks).0 h)))) refl
 
-    pub write_list : (r : Wrote) → head_wrong E R marks ≡ false
+    pub write_list : (r : Result ℕ (Refusal ℕ)) → head_wrong E R marks ≡ false
         → JudgedAs (list_rows E R list ++ room_rows (whole_records list) size) r (512 * blocks_for (whole_records list))
         → JudgedAs (write_rows E R marks list size) r (512 * blocks_for (whole_records list))
     write_list r h j =
@@ -204,13 +200,13 @@ module _ (E R N : ℕ) (bytes : List ℕ) where
     ),
   )
 
-  pub new_refused : (ss : List Row) (m number : ℕ) (found : Mistake) → Mistaken E R bytes found → number ≡ mistake_number found → (number ≡ 0 → ⊥)
-      → JudgedAs (new_rows E R N bytes ++ ss) (Refused number (N + 1)) m
+  pub new_refused : (ss : List Row) (m number : ℕ) (found : Option Mistake) → Mistaken E R bytes found → number ≡ mistake_number found → (number ≡ 0 → ⊥)
+      → JudgedAs (new_rows E R N bytes ++ ss) (Err (refusal_at number (N + 1))) m
   new_refused ss m number found f e n =
       let (d, _) = judged_refused (mistake_rows E R bytes) (one_place E R bytes) (numbered E R bytes) f (omega arith) in
       refused (due_first (new_rows E R N bytes) ss number (N + 1) (match_due (N + 1) (mistake_rows E R bytes) (new_rows E R N bytes) number 0 new_match (rw e d))) refl
 
-  pub new_passed : (ss : List Row) (m : ℕ) (found : Mistake) (r : Wrote) → Mistaken E R bytes found → mistake_number found ≡ 0
+  pub new_passed : (ss : List Row) (m : ℕ) (found : Option Mistake) (r : Result ℕ (Refusal ℕ)) → Mistaken E R bytes found → mistake_number found ≡ 0
       → JudgedAs ss r m → JudgedAs (new_rows E R N bytes ++ ss) r m
   new_passed ss m found r f e h =
       let (c, _) = judged_given (mistake_rows E R bytes) (one_place E R bytes) (numbered E R bytes) f e in
@@ -233,7 +229,7 @@ module _ (buffer : List ℕ) (n : ℕ) (bytes : List ℕ) where
   abbrev front : List ℕ
   front = take n buffer
 
-  pub append_first : (m : ℕ) → (ltb (length buffer) n || not (eqb (length bytes) 12)) ≡ true → JudgedAs (append_rows buffer n bytes) (Refused 1 0) m
+  pub append_first : (m : ℕ) → (ltb (length buffer) n || not (eqb (length bytes) 12)) ≡ true → JudgedAs (append_rows buffer n bytes) (Err (refusal_at 1 0)) m
   append_first m h = refused (inl (refl, (refl, (first_tells (length buffer) n (length bytes)).0 h))) refl
 
   module _ (right : (ltb (length buffer) n || not (eqb (length bytes) 12)) ≡ false) where
@@ -243,10 +239,10 @@ module _ (buffer : List ℕ) (n : ℕ) (bytes : List ℕ) where
     passes : Applies (row 1 (AtZero ((length buffer < n) ⊎ (length bytes ≡ 12 → ⊥)))) → ⊥
     passes (_, (_, w)) = clash_flag ((first_tells (length buffer) n (length bytes)).1 w) right
 
-    pub append_read : (m number place : ℕ) → Reads front (reading.Refused number place) → JudgedAs (append_rows buffer n bytes) (Refused number place) m
+    pub append_read : (m number place : ℕ) → Reads front (Err (refusal_at number place)) → JudgedAs (append_rows buffer n bytes) (Err (refusal_at number place)) m
     append_read m number place h = refused (inr (passes, due_first (reader_rows front) behind number place (reads_refused front number place h))) refl
 
-    pub append_record : (s : Sizes) (r : Wrote) → Accepts front s
+    pub append_record : (s : Sizes) (r : Result ℕ (Refusal ℕ)) → Accepts front s
         → JudgedAs (new_rows s.entities s.names s.records bytes ++ room_rows (s.records + 1) (length buffer)) r (512 * blocks_for (s.records + 1))
         → JudgedAs (append_rows buffer n bytes) r (512 * blocks_for (front_records buffer n + 1))
     append_record s r a h =
@@ -284,7 +280,7 @@ module _ (buffer : List ℕ) (n : ℕ) (bytes : List ℕ) where
 -- What the code found.
 
 -- the number of what is wrong with record i of a list
-pub found_mistake : (E R : ℕ) (list : List ℕ) (i : ℕ) (found : Mistake) (number : ℕ)
+pub found_mistake : (E R : ℕ) (list : List ℕ) (i : ℕ) (found : Option Mistake) (number : ℕ)
     → Mistaken E R (take (12 * i + 12 - 12 * i) (drop (12 * i) list)) found → number ≡ mistake_number found
     → number ≡ kind_number (mistake_kind E R (listed list i))
 found_mistake E R list i found number h e =
@@ -295,7 +291,7 @@ pub front_fits : (size n twelve : ℕ) → (ltb size n || not (eqb twelve 12)) �
 front_fits size n twelve h = ltb-false size n (or_false (ltb size n) _ h).0
 
 -- the reader's answer where it accepts, and the number of records then
-pub reads_front : (bytes : List ℕ) (s : Sizes) (r : Reading) → r ≡ reading.Accepted s → Reads bytes r → Accepts bytes s
+pub reads_front : (bytes : List ℕ) (s : Sizes) (r : Result Sizes (Refusal ℕ)) → r ≡ Ok s → Reads bytes r → Accepts bytes s
 reads_front bytes s r e h = reads_accepted bytes s (subst (Reads bytes) e h)
 
 pub front_few : (bytes : List ℕ) (s : Sizes) → Accepts bytes s → s.records ≤ 240

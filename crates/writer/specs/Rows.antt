@@ -1,5 +1,7 @@
 -- The writer's tables of refusals, in the paper's order: 1 to 5, 61 to 65, 12, 13. Places of records are counted from 1.
-use Rattle.std.specs.Prelude.{ℕ, ◌+◌, ◌*◌, ◌%◌, ◌<◌, ◌≡◌, Bool, true, ◌||◌, ◌⊎◌, List, [], ◌∷◌, ◌++◌, length, take}
+use Rattle.std.specs.Prelude.{ℕ, ◌+◌, ◌*◌, ◌%◌, ◌<◌, ◌≡◌, Bool, true, ◌||◌, ◌⊎◌, List, [], ◌∷◌, ◌++◌, length, take, Result, Ok, Err, is_ok}
+use Rattle.base.specs.declared.refusal.Refusal.{Refusal}
+use Rattle.base.specs.Refused.{number_of, place_of}
 use Rattle.base.specs.Range.{Outside, outside}
 use Rattle.base.specs.Lowest.{LowestBelow}
 use Rattle.base.specs.Refusals.{Row, row, AtPlace, AtZero, FromOne, Judged}
@@ -8,25 +10,14 @@ use Rattle.bundle.specs.Edition.{most_names}
 use Rattle.bundle.specs.Layout.{entities_of, names_of, records_of, blocks_for}
 use Rattle.bundle.specs.Rows.{reader_rows}
 use Rattle.content.specs.Content.{most_entities, most_records, marks_wrong, listed, whole_records}
-use Rattle.writer.specs.declared.answer.Wrote.{Wrote}
-use Rattle.writer.specs.declared.judge.Flaw.{Flaw}
-use Rattle.writer.specs.declared.answer.Wrote.TheVariants.{Length, Refused}
 
--- the paper's number and place of an answer, and the length that it says
-abbrev pub number_of : Wrote → ℕ
-number_of (Length n) = 0
-number_of (Refused number place) = number
-
-abbrev pub place_of : Wrote → ℕ
-place_of (Length n) = 0
-place_of (Refused number place) = place
-
-abbrev pub length_of : Wrote → ℕ
-length_of (Length n) = n
-length_of (Refused number place) = 0
+-- the length that an answer says
+abbrev pub length_of : Result ℕ (Refusal ℕ) → ℕ
+length_of (Ok n) = n
+length_of (Err why) = 0
 
 -- an answer by a table that says this length where no row applies
-abbrev pub JudgedAs : List Row → Wrote → ℕ → Type 0
+abbrev pub JudgedAs : List Row → Result ℕ (Refusal ℕ) → ℕ → Type 0
 JudgedAs rows r n = Judged rows (number_of r) (place_of r) (length_of r ≡ 0) (length_of r ≡ n)
 
 -- Both calls, at last.
@@ -60,8 +51,11 @@ list_rows E R list =
     ∷ []
 
 -- what is wrong with a list of records: the row that is due, or nothing where none applies
-abbrev pub FlawOf : ℕ → ℕ → List ℕ → Flaw → Type 0
-FlawOf E R list flaw = Judged (list_rows E R list) flaw.number flaw.place (Unit {0}) (Unit {0})
+abbrev pub FlawBy : ℕ → ℕ → List ℕ → ℕ → ℕ → Bool → Type 0
+FlawBy E R list number place right = Judged (list_rows E R list) number place (Unit {0}) (right ≡ true)
+
+abbrev pub FlawOf : {U : Type 0} → ℕ → ℕ → List ℕ → Result U (Refusal ℕ) → Type 0
+FlawOf E R list flaw = FlawBy E R list (number_of flaw) (place_of flaw) (is_ok flaw)
 
 -- E or R out of range, or wrong marks
 abbrev pub HeadWrong : ℕ → ℕ → List ℕ → Type 0

@@ -7,11 +7,11 @@ ghost use Rattle.bundle.specs.Rows.{Reads};
 ghost use Rattle.content.specs.Content.{mark_wrong, marks_wrong, listed, whole_records};
 ghost use Rattle.writer.specs.Rows.{head_wrong, room_rows, list_rows, write_rows, new_rows, append_rows, wrong_listed, FlawOf, JudgedAs, front_records};
 
-use crate::answer::Wrote;
+use base::refusal::{Cause, Refusal};
 use base::{byte, outside};
 use block::Block;
 use bundle::edition::Edition;
-use bundle::read::{Reading, Sizes, read};
+use bundle::read::{Sizes, read};
 use records::mistake::{mistake_of, number_of, record_wrong};
 
 // The most entities and records that a bundle has.
@@ -51,23 +51,17 @@ fn head_wrong(entities: usize, names: usize, marks: &[u8]) -> bool
 }
 
 // Whether so many records are too many, or the buffer too short for them.
-fn judge_room(count: usize, size: usize) -> Wrote
+fn judge_room(count: usize, size: usize) -> Result<usize, Refusal<usize>>
     ensures { JudgedAs (room_rows count size) result (512 * blocks_for count) }
 {
     if Most::RECORDS < count {
-        return Wrote::Refused {
-            number: 12,
-            place: 241,
-        };
+        return Err(Cause::TooMany.at(241));
     }
     let length = Block::SIZE * (1 + (count + 39) / Block::RECORDS);
     if size < length {
-        return Wrote::Refused {
-            number: 13,
-            place: 0,
-        };
+        return Err(Cause::Room.at(0));
     }
-    Wrote::Length(length)
+    Ok(length)
 }
 
 // Whether record i of a list is wrong.
@@ -103,43 +97,31 @@ fn lowest_wrong(entities: usize, names: usize, records: &[u8]) -> usize
     count
 }
 
-// What is wrong with a list of records: the paper's number and place, 0 and 0 for nothing.
-#[derive(Clone, Copy)]
-pub struct Flaw {
-    pub number: u8,
-    pub place: usize,
-}
-
-// The lowest wrong record of a list, and what is wrong with it.
-pub fn flaw_of(entities: usize, names: usize, records: &[u8]) -> Flaw
+// Whether a list of records is right, or else what is wrong with its lowest wrong record.
+pub fn flaw_of(entities: usize, names: usize, records: &[u8]) -> Result<(), Refusal<usize>>
     ensures { FlawOf entities names records.now result }
 {
     let i = lowest_wrong(entities, names, records);
     if i < records.len() / Block::RECORD_SIZE {
-        Flaw {
+        return Err(Refusal {
             number: mistake_at(entities, names, records, i),
             place: i + 1,
-        }
-    } else {
-        Flaw {
-            number: 0,
-            place: 0,
-        }
+        });
     }
+    Ok(())
 }
 
 // The records of a list, and then whether there is room.
-fn judge_list(entities: usize, names: usize, records: &[u8], size: usize) -> Wrote
+fn judge_list(
+    entities: usize,
+    names: usize,
+    records: &[u8],
+    size: usize,
+) -> Result<usize, Refusal<usize>>
     ensures { JudgedAs (list_rows entities names records.now ++ room_rows (whole_records records.now) size) result
         (512 * blocks_for (whole_records records.now)) }
 {
-    let flaw = flaw_of(entities, names, records);
-    if flaw.number != 0 {
-        return Wrote::Refused {
-            number: flaw.number,
-            place: flaw.place,
-        };
-    }
+    flaw_of(entities, names, records)?;
     judge_room(records.len() / Block::RECORD_SIZE, size)
 }
 
@@ -150,43 +132,33 @@ pub(crate) fn judge_write(
     marks: &[u8],
     records: &[u8],
     size: usize,
-) -> Wrote
+) -> Result<usize, Refusal<usize>>
     ensures { JudgedAs (write_rows entities names marks.now records.now size) result
         (512 * blocks_for (whole_records records.now)) }
 {
     if records.len() % Block::RECORD_SIZE != 0 {
-        return Wrote::Refused {
-            number: 1,
-            place: 0,
-        };
+        return Err(Cause::Length.at(0));
     }
     if head_wrong(entities, names, marks) {
-        return Wrote::Refused {
-            number: 3,
-            place: 0,
-        };
+        return Err(Cause::Layout.at(0));
     }
     judge_list(entities, names, records, size)
 }
 
 // A record that is to be put last behind so many, and then whether there is room.
-fn judge_record(sizes: Sizes, record: &[u8], size: usize) -> Wrote
+fn judge_record(sizes: Sizes, record: &[u8], size: usize) -> Result<usize, Refusal<usize>>
     requires { sizes.records ≤ 240 }
     ensures { JudgedAs (new_rows sizes.entities sizes.names sizes.records «record».now ++ room_rows (sizes.records + 1) size) result
         (512 * blocks_for (sizes.records + 1)) }
 {
-    let number = number_of(mistake_of(sizes.entities, sizes.names, record));
-    if number != 0 {
-        return Wrote::Refused {
-            number,
-            place: sizes.records + 1,
-        };
+    if let Some(mistake) = mistake_of(sizes.entities, sizes.names, record) {
+        return Err(Cause::from(mistake).at(sizes.records + 1));
     }
     judge_room(sizes.records + 1, size)
 }
 
 // What the reader says of the front of a buffer.
-fn read_front(bundle: &[u8], length: usize) -> Reading
+fn read_front(bundle: &[u8], length: usize) -> Result<Sizes, Refusal<u16>>
     requires { length ≤ length_of_list bundle.now }
     ensures { Reads (take length bundle.now) result }
 {
@@ -196,22 +168,18 @@ fn read_front(bundle: &[u8], length: usize) -> Reading
 }
 
 // Whether a record can be put last in the bundle of this length at the front of a buffer.
-pub(crate) fn judge_append(bundle: &[u8], length: usize, record: &[u8]) -> Wrote
+pub(crate) fn judge_append(
+    bundle: &[u8],
+    length: usize,
+    record: &[u8],
+) -> Result<usize, Refusal<usize>>
     ensures { JudgedAs (append_rows bundle.now length «record».now) result
         (512 * blocks_for (front_records bundle.now length + 1)) }
 {
     let size = bundle.len();
     if (size < length) | (record.len() != Block::RECORD_SIZE) {
-        return Wrote::Refused {
-            number: 1,
-            place: 0,
-        };
+        return Err(Cause::Length.at(0));
     }
-    match read_front(bundle, length) {
-        Reading::Accepted(sizes) => judge_record(sizes, record, size),
-        Reading::Refused { number, place } => Wrote::Refused {
-            number,
-            place: place as usize,
-        },
-    }
+    let sizes = read_front(bundle, length)?;
+    judge_record(sizes, record, size)
 }

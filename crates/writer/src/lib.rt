@@ -2,7 +2,6 @@
 // answer a length or a refusal, and a refused call touches nothing.
 #![tactic(auto)]
 
-pub mod answer;
 pub mod append;
 pub mod fill;
 pub mod judge;

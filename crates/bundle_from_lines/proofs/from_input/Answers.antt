@@ -4,7 +4,7 @@ use Rattle.bundle_from_lines.proofs.Prints.{short_refused, from_parts}
 use Rattle.bundle_from_lines.proofs.from_input.Goals as goal
 
 pub returns-then-input-lt-BYTES : goal.returns-then-input-lt-BYTES
-returns-then-input-lt-BYTES c = short_refused c.args.input.now _ (omega (arith, c.if-input-lt-BYTES.true))
+returns-then-input-lt-BYTES c = rw c.at.ensures (short_refused c.args.input.now _ (omega (arith, c.if-input-lt-BYTES.true)))
 
 pub returns : goal.returns
 returns c =

@@ -7,14 +7,14 @@ use Rattle.holder_lines.proofs.list_accepted.Goals as goal
 pub returns-then-not-right : goal.returns-then-not-right
 returns-then-not-right c =
     let args = c.args in
-    sheet_refused args.bundle.now args.sheet.now args.text.now args.sizes c.requires _ c.right.ensures
-    (c.if-not-right.true)
+    rw c.at.ensures (sheet_refused args.bundle.now args.sheet.now args.text.now args.sizes c.requires _ c.right.ensures
+    (c.if-not-right.true))
 
 pub returns-then-text-lt-BYTES : goal.returns-then-text-lt-BYTES
 returns-then-text-lt-BYTES c =
     let args = c.args in
-    short_refused args.bundle.now args.sheet.now args.text.now args.sizes c.requires _ c.right.ensures
-    (c.if-not-right.false) (omega (arith, c.if-text-lt-BYTES.true))
+    rw c.at-then-text-lt-BYTES.ensures (short_refused args.bundle.now args.sheet.now args.text.now args.sizes c.requires _ c.right.ensures
+    (c.if-not-right.false) (omega (arith, c.if-text-lt-BYTES.true)))
 
 pub write_lines-requires : goal.write_lines-requires
 write_lines-requires c =

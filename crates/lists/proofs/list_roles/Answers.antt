@@ -4,7 +4,7 @@ use Rattle.lists.proofs.Promised.{roles_wrong, roles_given}
 use Rattle.lists.proofs.list_roles.Goals as goal
 
 pub returns-then-outside : goal.returns-then-outside
-returns-then-outside c = roles_wrong _ _ c.requires.0 _ _ c.outside.ensures c.if-outside.true
+returns-then-outside c = rw c.at.ensures (roles_wrong _ _ c.requires.0 _ _ c.outside.ensures c.if-outside.true)
 
 pub returns : goal.returns
 returns c =

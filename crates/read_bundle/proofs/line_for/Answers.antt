@@ -4,12 +4,12 @@ use Rattle.read_bundle.proofs.Prints.{prints_refused}
 use Rattle.read_bundle.proofs.line_for.Goals as goal
 
 pub line_of-requires : goal.line_of-requires
-line_of-requires c = reads_accepted _ _ (rw c.in-Accepted.is at c.read.ensures)
+line_of-requires c = reads_accepted _ _ (rw c.in-Ok.is at c.read.ensures)
 
-pub returns-in-Refused : goal.returns-in-Refused
-returns-in-Refused c =
+pub returns-in-Err : goal.returns-in-Err
+returns-in-Err c =
     record {
       shown = _;
       holds = c.refusal.ensures;
-      allowed = prints_refused c.args.input.now _ _ (rw c.in-Refused.is at c.read.ensures);
+      allowed = prints_refused c.args.input.now _ _ (rw c.in-Err.is at c.read.ensures);
     }

@@ -5,7 +5,7 @@ use borrow.Author.Rules.{rules}
 use Rattle.tables.proofs.fill_accepted.Goals as goal
 
 pub returns-then-sure-possible : goal.returns-then-sure-possible
-returns-then-sure-possible c = refused_short _ _ c.requires _ c.if-sure-possible.true
+returns-then-sure-possible c = rw c.at.ensures (refused_short _ _ c.requires _ c.if-sure-possible.true)
 
 pub fill_table-rounds-requires : goal.fill_table-rounds-requires
 fill_table-rounds-requires c =

@@ -1,13 +1,14 @@
 -- `capi::pack::pack_storage` meets its contract.
-use mathlib.Core.Path.{refl}
+use Rattle.std.specs.Prelude.{Ok}
+use mathlib.Core.Path.{refl, ap, ◌∙◌}
 use Rattle.capi.proofs.Holders.{packs_held, packs_ill, packs_refusal}
 use Rattle.capi.proofs.pack.pack_storage.Goals as goal
 
-pub returns-in-Held : goal.returns-in-Held
-returns-in-Held c = packs_held _ _ _ _ _ c.in-Held.is refl refl c.pack.ensures
+pub returns-in-Some : goal.returns-in-Some
+returns-in-Some c = packs_held _ _ _ _ _ (c.in-Ok.is ∙ ap Ok c.in-Some.is) refl refl c.pack.ensures
 
-pub returns-in-Ill : goal.returns-in-Ill
-returns-in-Ill c = packs_ill _ _ c.in-Ill.is c.pack-in-Ill.ensures
+pub returns-in-None : goal.returns-in-None
+returns-in-None c = packs_ill _ _ (c.in-Ok.is ∙ ap Ok c.in-None.is) c.pack-in-None.ensures
 
-pub returns-in-Refused : goal.returns-in-Refused
-returns-in-Refused c = packs_refusal _ _ _ _ c.in-Refused.is c.pack-in-Refused.ensures
+pub returns-in-Err : goal.returns-in-Err
+returns-in-Err c = packs_refusal _ _ _ _ c.in-Err.is c.pack-in-Err.ensures

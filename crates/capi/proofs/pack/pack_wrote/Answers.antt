@@ -2,8 +2,8 @@
 use Rattle.capi.proofs.Written.{packs_length, packs_refused}
 use Rattle.capi.proofs.pack.pack_wrote.Goals as goal
 
-pub returns-in-Length : goal.returns-in-Length
-returns-in-Length c = packs_length _ _ _ c.in-Length.is c.pack_below.ensures
+pub returns-in-Ok : goal.returns-in-Ok
+returns-in-Ok c = packs_length _ _ _ c.in-Ok.is c.pack_below.ensures
 
-pub returns-in-Refused : goal.returns-in-Refused
-returns-in-Refused c = packs_refused _ _ _ _ c.in-Refused.is c.pack_below-in-Refused.ensures
+pub returns-in-Err : goal.returns-in-Err
+returns-in-Err c = packs_refused _ _ _ _ c.in-Err.is c.pack_below-in-Err.ensures

@@ -3,12 +3,7 @@ use mathlib.Core.Path.{sym, ◌∙◌}
 use Rattle.checker.proofs.Lookups.{claim_stated}
 use Rattle.checker.proofs.claim.stated_by.Goals as goal
 
-pub returns-in-Of : goal.returns-in-Of
-returns-in-Of c =
+pub returns : goal.returns
+returns c =
     let args = c.args in
-    claim_stated args.credential _ args.member (sym c.in-Of.is ∙ c.head_of.ensures)
-
-pub returns-in-Nothing : goal.returns-in-Nothing
-returns-in-Nothing c =
-    let args = c.args in
-    claim_stated args.credential _ args.member (sym c.in-Nothing.is ∙ c.head_of.ensures)
+    claim_stated args.credential _ args.member (sym c.in_ok-role.was ∙ c.head_of.ensures)

@@ -15,8 +15,8 @@ returns-then-useless c =
     premise_useless _ _ _ _ _ _ _ c.args.j _ _ _ c.byte-member.ensures.0 c.byte.ensures.0
     c.credential-its.ensures (sym c.useless.ensures ∙ c.if-useless.true)
 
-pub returns-in-That : goal.returns-in-That
-returns-in-That c =
+pub returns-in-Some : goal.returns-in-Some
+returns-in-Some c =
     let judged : (fact found : Option Fact) → fact ≡ fact_in c.wanted.result
     → found ≡ stated (book_in c.args.bundle.now) (item (lines_of c.args.slip.now c.args.i) c.premise-p.result)
     → misses fact found c.premise-p.result
@@ -26,11 +26,11 @@ returns-in-That c =
     _ _ _ _ found fact (sym c.useless.ensures ∙ c.if-useless.false)
     c.premise.ensures c.stated.ensures c.member_of-linked.ensures
     c.premise-p.ensures (fact-is ∙ c.wanted.ensures) found-is in
-    let role-is = ap fact_in (sym c.in-That.is) in
-    rw c.same.ensures (judged _ _ role-is c.stated-in-That.ensures)
+    let role-is = ap fact_in (sym c.in-Some.is) in
+    rw c.same.ensures (judged _ _ role-is c.stated-in-Some.ensures)
 
-pub returns-in-Nothing : goal.returns-in-Nothing
-returns-in-Nothing c =
+pub returns-in-None : goal.returns-in-None
+returns-in-None c =
     let judged : (fact found : Option Fact) → fact ≡ fact_in c.wanted.result
     → found ≡ stated (book_in c.args.bundle.now) (item (lines_of c.args.slip.now c.args.i) c.premise-p.result)
     → misses fact found c.premise-p.result
@@ -40,4 +40,4 @@ returns-in-Nothing c =
     _ _ _ _ found fact (sym c.useless.ensures ∙ c.if-useless.false)
     c.premise.ensures c.stated.ensures c.member_of-linked.ensures
     c.premise-p.ensures (fact-is ∙ c.wanted.ensures) found-is in
-    judged _ _ (ap fact_in (sym c.in-Nothing.is)) refl
+    judged _ _ (ap fact_in (sym c.in-None.is)) refl

@@ -1,4 +1,5 @@
 -- `letters::read::judge_lines` meets its contract. The invariant: the lines passed are those of valid credentials, at most 240.
+use Prim.Native.Nat.{◌<◌}
 use native.Mathlib.Omega.{arith}
 use mathlib.Core.Path.{refl, sym, subst, ◌∙◌}
 use mathlib.Core.List.{List}
@@ -22,7 +23,7 @@ returns-then-lines-eq-RECORDS c =
     let loop = c.loop-line in
     let come = lines_come _ args.text.now (search rules) (search rules) (λ x b q k. search rules) in
     let (more, _) = line_comes args.text.now come loop.yielded _ loop.yielded_by _ _ c.in-Some.line c.in-Some.is c.next.ensures.steps loop.lines loop.invariant.0 in
-    text_many args.entities args.names args.text.now loop.lines loop.invariant.2 more args.size c.if-lines-eq-RECORDS.true
+    rw c.at.ensures (text_many args.entities args.names args.text.now loop.lines loop.invariant.2 more args.size c.if-lines-eq-RECORDS.true)
 
 pub returns-then-not-right_line : goal.returns-then-not-right_line
 returns-then-not-right_line c =
@@ -30,9 +31,11 @@ returns-then-not-right_line c =
     let loop = c.loop-line in
     let come = lines_come _ args.text.now (search rules) (search rules) (λ x b q k. search rules) in
     let (more, here) = line_comes args.text.now come loop.yielded _ loop.yielded_by _ _ c.in-Some.line c.in-Some.is c.next.ensures.steps loop.lines loop.invariant.0 in
-    text_wrong args.entities args.names args.text.now loop.lines loop.invariant.2 more args.size (omega arith)
+    let few : loop.lines < 240 = omega arith in
+    let wrong = text_wrong args.entities args.names args.text.now loop.lines loop.invariant.2 more args.size few
     (λ h. clash_flag (c.right_line.ensures.1 ((own_right args.entities args.names c.requires.0 c.requires.1 _).1
-    (subst (λ (line : List ℕ). RightLine args.entities args.names line) (sym here) h))) (c.if-not-right_line.true))
+    (subst (λ (line : List ℕ). RightLine args.entities args.names line) (sym here) h))) (c.if-not-right_line.true)) in
+    rw c.at-then-not-right_line.ensures wrong
 
 pub loop-line-preserved : goal.loop-line-preserved
 loop-line-preserved c =

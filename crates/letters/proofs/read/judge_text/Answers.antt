@@ -6,7 +6,7 @@ use Rattle.letters.proofs.read.judge_text.Goals as goal
 pub returns-then-out_of_range : goal.returns-then-out_of_range
 returns-then-out_of_range c =
     let args = c.args in
-    text_range args.entities args.names args.text.now args.size (sym c.out_of_range.ensures ∙ c.if-out_of_range.true)
+    rw c.at.ensures (text_range args.entities args.names args.text.now args.size (sym c.out_of_range.ensures ∙ c.if-out_of_range.true))
 
 pub judge_lines-requires : goal.judge_lines-requires
 judge_lines-requires c =

@@ -1,16 +1,17 @@
 -- `letters::read::read_lines` meets its contract.
-use Rattle.letters.proofs.Kept.{read_handed, read_filled}
+use mathlib.Core.Path.{refl}
+use Rattle.letters.proofs.Kept.{read_filled, read_handed}
+use Rattle.base.proofs.Refused.{handed_on}
+use Rattle.letters.specs.Promise.{Reads}
 use Rattle.letters.proofs.read.read_lines.Goals as goal
-
-pub returns-in_default : goal.returns-in_default
-returns-in_default c =
-    let args = c.args in
-    let judged = c.judge_text-judged in
-    read_handed args.entities args.names args.text.now args.records.now judged.result judged.ensures _ _ c.in_default.is
 
 pub returns : goal.returns
 returns c =
     let args = c.args in
-    let judged = c.judge_text-judged in
-    read_filled args.entities args.names args.text.now args.records.now judged.result judged.ensures _ c.in-Length.is _ _
-    c.fill_records-end.ensures
+    read_filled args.entities args.names args.text.now args.records.now _ c.in_ok-length.ensures _ refl _ _ c.fill_records-end.ensures
+
+pub returns-in_err-length : goal.returns-in_err-length
+returns-in_err-length c =
+    let args = c.args in
+    handed_on (λ r. Reads args.entities args.names args.text.now args.records.now r args.records.now) c.from_residual.ensures
+    (read_handed args.entities args.names args.text.now args.records.now _ c.in_err-length.ensures _ _ refl)

@@ -1,16 +1,17 @@
 -- `letters::write::write_lines` meets its contract.
-use Rattle.letters.proofs.Kept.{write_handed, write_filled}
+use mathlib.Core.Path.{refl}
+use Rattle.letters.proofs.Kept.{write_filled, write_handed}
+use Rattle.base.proofs.Refused.{handed_on}
+use Rattle.letters.specs.Promise.{Writes}
 use Rattle.letters.proofs.write.write_lines.Goals as goal
-
-pub returns-in_default : goal.returns-in_default
-returns-in_default c =
-    let args = c.args in
-    let judged = c.judge_records-judged in
-    write_handed args.entities args.names args.records.now args.text.now judged.result judged.ensures _ _ c.in_default.is
 
 pub returns : goal.returns
 returns c =
     let args = c.args in
-    let judged = c.judge_records-judged in
-    write_filled args.entities args.names args.records.now args.text.now judged.result judged.ensures _ c.in-Length.is _ _
-    c.fill_text-end.ensures
+    write_filled args.entities args.names args.records.now args.text.now _ c.in_ok-length.ensures _ refl _ _ c.fill_text-end.ensures
+
+pub returns-in_err-length : goal.returns-in_err-length
+returns-in_err-length c =
+    let args = c.args in
+    handed_on (λ r. Writes args.entities args.names args.records.now args.text.now r args.text.now) c.from_residual.ensures
+    (write_handed args.entities args.names args.records.now args.text.now _ c.in_err-length.ensures _ _ refl)

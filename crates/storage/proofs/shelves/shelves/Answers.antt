@@ -10,5 +10,5 @@ returns-in_default c =
 
 pub returns : goal.returns
 returns c =
-    held_found (types_by c.args.sheet.now) c.args.kept _ _ _ _ _ _ (sym c.head_of.ensures ∙ c.in-Of.is)
+    held_found (types_by c.args.sheet.now) c.args.kept _ _ _ _ _ _ (sym c.head_of.ensures ∙ c.in-Some.is)
     c.sides_of-name.ensures c.single.ensures c.subjects.ensures c.held_if.ensures c.held_if-2.ensures

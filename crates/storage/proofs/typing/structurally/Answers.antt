@@ -10,5 +10,5 @@ returns-in_default c =
 
 pub returns : goal.returns
 returns c =
-    typed_found (types_by c.args.sheet.now) c.args.kept _ _ _ _ (sym c.head_of.ensures ∙ c.in-Of.is)
+    typed_found (types_by c.args.sheet.now) c.args.kept _ _ _ _ (sym c.head_of.ensures ∙ c.in-Some.is)
     c.traces.ensures c.body.ensures c.three_conditions.ensures

@@ -8,7 +8,7 @@ returns-then-i-records c =
     let args = c.args in
     list_flaw args.entities args.names args.records.now c.lowest_wrong-i.result _ c.lowest_wrong-i.ensures (search rules) c.mistake_at.ensures
 
-pub returns-else-i-records : goal.returns-else-i-records
-returns-else-i-records c =
+pub returns : goal.returns
+returns c =
     let args = c.args in
     list_right args.entities args.names args.records.now c.lowest_wrong-i.result c.lowest_wrong-i.ensures (search rules)

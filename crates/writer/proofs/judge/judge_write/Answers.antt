@@ -7,13 +7,13 @@ use Rattle.writer.proofs.judge.judge_write.Goals as goal
 pub returns-then-records-ne0 : goal.returns-then-records-ne0
 returns-then-records-ne0 c =
     let args = c.args in
-    write_cut args.entities args.names args.marks.now args.records.now args.size (λ e. c.if-records-ne0.true (omega arith))
+    rw c.at.ensures (write_cut args.entities args.names args.marks.now args.records.now args.size (λ e. c.if-records-ne0.true (omega arith)))
 
 pub returns-then-head_wrong : goal.returns-then-head_wrong
 returns-then-head_wrong c =
     let args = c.args in
-    write_head args.entities args.names args.marks.now args.records.now args.size
-    (omega arith) (sym c.head_wrong.ensures ∙ c.if-head_wrong.true)
+    rw c.at-then-head_wrong.ensures (write_head args.entities args.names args.marks.now args.records.now args.size
+    (omega arith) (sym c.head_wrong.ensures ∙ c.if-head_wrong.true))
 
 pub returns : goal.returns
 returns c =

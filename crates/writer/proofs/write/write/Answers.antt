@@ -1,26 +1,23 @@
 -- `writer::write::write` meets its contract.
-use Rattle.writer.proofs.Kept.{write_handed, write_let, write_filled}
+use mathlib.Core.Path.{refl}
+use Rattle.writer.proofs.Kept.{write_let, write_filled, write_handed}
+use Rattle.base.proofs.Refused.{handed_on}
+use Rattle.writer.specs.Promise.{Writes}
 use Rattle.writer.proofs.write.write.Goals as goal
-
-pub returns-in_default : goal.returns-in_default
-returns-in_default c =
-    let args = c.args in
-    let judged = c.judge_write-judged in
-    write_handed args.entities args.names args.marks.now args.records.now args.bundle.now judged.result judged.ensures _ _
-    c.in_default.is
 
 pub fill-requires : goal.fill-requires
 fill-requires c =
     let args = c.args in
-    let judged = c.judge_write-judged in
-    let clear =
-    write_let args.entities args.names args.marks.now args.records.now args.bundle.now judged.result judged.ensures _
-    c.in-Length.is in
+    let clear = write_let args.entities args.names args.marks.now args.records.now args.bundle.now _ c.in_ok-length.ensures _ refl in
     (clear.whole, clear.few, clear.room)
 
 pub returns : goal.returns
 returns c =
     let args = c.args in
-    let judged = c.judge_write-judged in
-    write_filled args.entities args.names args.marks.now args.records.now args.bundle.now judged.result judged.ensures _ _
-    c.in-Length.is c.fill.ensures
+    write_filled args.entities args.names args.marks.now args.records.now args.bundle.now _ c.in_ok-length.ensures _ _ refl c.fill.ensures
+
+pub returns-in_err-length : goal.returns-in_err-length
+returns-in_err-length c =
+    let args = c.args in
+    handed_on (λ r. Writes args.entities args.names args.marks.now args.records.now args.bundle.now r args.bundle.now) c.from_residual.ensures
+    (write_handed args.entities args.names args.marks.now args.records.now args.bundle.now _ c.in_err-length.ensures _ _ refl)
