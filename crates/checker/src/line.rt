@@ -1,6 +1,7 @@
-// A line of a slip and its premises. Lines are counted here from 0, as bytes are, and premises name them from 1.
+// A line of a slip and its premises, over an accepted bundle. Lines are counted here from 0, as bytes are, and premises name them from 1.
 ghost use Rattle.std.specs.Prelude.{◌≡◌, ◌*◌, ◌<◌, ◌≤◌, [], ◌∷◌};
 ghost use Rattle.std.proofs.Math.ListN.{get_elem?};
+ghost use Rattle.std.proofs.Props.{props};
 ghost use Rattle.rt0.specs.Credential.{◌·◌};
 ghost use Rattle.rt0.specs.Book.{item};
 ghost use Rattle.rt0.specs.Slip.{◌∋◌, stated as stated_of};
@@ -35,36 +36,6 @@ pub(crate) fn premise(slip: &[u8], i: usize, j: usize) -> usize
 {
     let at = Line::SIZE * i + 2 + 2 * j;
     byte(slip, at) + 256 * byte(slip, at + 1)
-}
-
-// The credential of a number, where it is from 1 to the number of records.
-pub(crate) fn credential(bundle: &[u8], sizes: Sizes, number: usize) -> Option<Record>
-    requires { Accepts bundle.now sizes }
-    ensures { credential_of result ≡ book_in bundle.now number }
-{
-    if outside(sizes.records, number) {
-        return None;
-    }
-    record_at(bundle, number)
-}
-
-// What line number p, from 1, of the first so many lines states.
-pub(crate) fn stated(
-    bundle: &[u8],
-    sizes: Sizes,
-    slip: &[u8],
-    lines: usize,
-    p: usize,
-) -> Option<Claim>
-    requires { Accepts bundle.now sizes × (lines ≤ slip_lines) }
-    ensures { fact_in result ≡ stated_of (book_in bundle.now) (item (lines_of slip.now lines) p) }
-{
-    if outside(lines, p) {
-        return None;
-    }
-    let at = Line::SIZE * (p - 1);
-    let number = byte(slip, at + 1);
-    stated_by(credential(bundle, sizes, number), byte(slip, at))
 }
 
 // Whether no line with this member is right by a credential, whatever its premises.
@@ -153,21 +124,54 @@ pub(crate) fn wanted(
     }
 }
 
-// Whether premise j of line i is wrong.
-pub(crate) fn broken(bundle: &[u8], sizes: Sizes, slip: &[u8], i: usize, j: usize) -> bool
-    requires { Accepts bundle.now sizes × (i < slip_lines) × (j < 3) }
-    ensures { result ≡ premise_wrong_at (book_in bundle.now) slip.now i j }
-{
-    let at = Line::SIZE * i;
-    let member = byte(slip, at);
-    let its = credential(bundle, sizes, byte(slip, at + 1));
-    if useless(its, member) {
-        return true;
+// A bundle that the reader accepts, with the sizes that block 0 says.
+#[derive(Clone, Copy)]
+pub(crate) struct Accepted<'a> {
+    pub(crate) bytes: &'a [u8],
+    pub(crate) sizes: Sizes,
+    ghost accepts: { Accepts bytes.now sizes } by { Prim.hlevel props },
+}
+
+impl Accepted<'_> {
+    // The credential of a number, where it is from 1 to the number of records.
+    pub(crate) fn credential(&self, number: usize) -> Option<Record>
+        ensures { credential_of result ≡ book_in self.now.bytes.now number }
+    {
+        if outside(self.sizes.records, number) {
+            return None;
+        }
+        record_at(self.bytes, number)
     }
-    let linked = member_of(stated(bundle, sizes, slip, i, premise(slip, i, 0)));
-    let p = premise(slip, i, j);
-    match wanted(its, member, linked, j) {
-        Some(claim) => !same(stated(bundle, sizes, slip, i, p), claim.role, claim.member),
-        None => p != 0,
+
+    // What line number p, from 1, of the first so many lines states.
+    pub(crate) fn stated(&self, slip: &[u8], lines: usize, p: usize) -> Option<Claim>
+        requires { lines ≤ slip_lines }
+        ensures { fact_in result ≡ stated_of (book_in self.now.bytes.now) (item (lines_of slip.now lines) p) }
+    {
+        if outside(lines, p) {
+            return None;
+        }
+        let at = Line::SIZE * (p - 1);
+        let number = byte(slip, at + 1);
+        stated_by(self.credential(number), byte(slip, at))
+    }
+
+    // Whether premise j of line i is wrong.
+    pub(crate) fn broken(&self, slip: &[u8], i: usize, j: usize) -> bool
+        requires { (i < slip_lines) × (j < 3) }
+        ensures { result ≡ premise_wrong_at (book_in self.now.bytes.now) slip.now i j }
+    {
+        let at = Line::SIZE * i;
+        let member = byte(slip, at);
+        let its = self.credential(byte(slip, at + 1));
+        if useless(its, member) {
+            return true;
+        }
+        let linked = member_of(self.stated(slip, i, premise(slip, i, 0)));
+        let p = premise(slip, i, j);
+        match wanted(its, member, linked, j) {
+            Some(claim) => !same(self.stated(slip, i, p), claim.role, claim.member),
+            None => p != 0,
+        }
     }
 }

@@ -19,8 +19,8 @@ returns-in_err-sizes c =
     handed_on (Checks args.bundle.now (question args.d args.a args.r) args.slip.now) c.from_residual.ensures
     (reader_refused args.bundle.now (question args.d args.a args.r) args.slip.now _ _ c.in_err-sizes.ensures)
 
-pub check_slip-requires : goal.check_slip-requires
-check_slip-requires c = reads_accepted _ _ c.in_ok-sizes.ensures
+pub invariant_of-accepted : goal.invariant_of-accepted
+invariant_of-accepted c = record { accepts = reads_accepted _ _ c.in_ok-sizes.ensures }
 
 pub returns : goal.returns
 returns c =

@@ -1,16 +1,16 @@
--- `checker::line::stated` meets its contract.
+-- `checker::line::Accepted::stated` meets its contract.
 use Prim.Native.Nat.{◌≤◌}
 use native.Mathlib.Omega.{arith}
 use mathlib.Core.Path.{sym, ◌∙◌}
 use Rattle.base.proofs.Flags.{inside}
 use Rattle.bundle.specs.Held.{book_in}
 use Rattle.checker.proofs.Lookups.{stated_outside, stated_inside}
-use Rattle.checker.proofs.line.stated.Goals as goal
+use Rattle.checker.proofs.line.Accepted.stated.Goals as goal
 
 pub returns-then-outside : goal.returns-then-outside
 returns-then-outside c =
     let args = c.args in
-    stated_outside (book_in args.bundle.now) args.slip.now args.lines args.p
+    stated_outside (book_in args.self.now.bytes.now) args.slip.now args.lines args.p
     (sym c.outside.ensures ∙ c.if-outside.true)
 
 pub overflow_sub-at : goal.overflow_sub-at
@@ -37,6 +37,6 @@ overflow_add-at c =
 pub returns : goal.returns
 returns c =
     let args = c.args in
-    stated_inside (book_in args.bundle.now) args.slip.now args.lines args.p _ _ _ _
+    stated_inside (book_in args.self.now.bytes.now) args.slip.now args.lines args.p _ _ _ _
     (sym c.outside.ensures ∙ c.if-outside.false) c.byte-number.ensures.0 c.byte.ensures.0
     c.credential.ensures c.stated_by.ensures

@@ -1,10 +1,10 @@
--- `checker::check::first_broken` meets its contract. The invariants: no line before i is wrong, and no premise of line i before j.
+-- `checker::line::Accepted::first_broken` meets its contract. The invariants: no line before i is wrong, and no premise of line i before j.
 use native.Mathlib.Omega.{arith}
 use mathlib.Core.Path.{◌≡◌, sym, ◌∙◌}
 use borrow.Author.Rules.{rules}
 use Rattle.base.proofs.Lowest.{lowest_none}
 use Rattle.checker.proofs.Lookups.{line_found, line_passed}
-use Rattle.checker.proofs.check.first_broken.Goals as goal
+use Rattle.checker.proofs.line.Accepted.first_broken.Goals as goal
 
 pub lines-preserved : goal.lines-preserved
 lines-preserved c =
