@@ -27,7 +27,12 @@ pub fn first_wrong(first: &[u8]) -> bool
     ensures { result ≡ first_wrong first.now }
 {
     let edition = edition_for(byte(first, 2)) as usize;
-    (0..Block::CHECK_PLACE).any(|i| first_byte_wrong(first, edition, i))
+    for i in 0..Block::CHECK_PLACE {
+        if first_byte_wrong(first, edition, i) {
+            return true;
+        }
+    }
+    false
 }
 
 // The number of records in record block j + 1 of a bundle of n.
@@ -61,7 +66,12 @@ fn beside_wrong(bytes: &[u8], j: usize, records: usize) -> bool
     requires { (j < 7) × (records ≤ 40) }
     ensures { result ≡ beside_wrong j records bytes.now }
 {
-    (0..Block::CHECK_PLACE).any(|i| beside_byte_wrong(bytes, j, records, i))
+    for i in 0..Block::CHECK_PLACE {
+        if beside_byte_wrong(bytes, j, records, i) {
+            return true;
+        }
+    }
+    false
 }
 
 // Whether the bytes beside the records of record block j + 1 of a bundle of n records are wrong.

@@ -99,10 +99,14 @@ fn first_kind(entities: usize, names: usize, record: &[u8]) -> usize
 {
     let form = byte(record, 0);
     let parts = byte(record, 3);
-    (0..Twelve::BYTES)
-        .map(|i| kind_at(entities, names, form, parts, i, byte(record, i)))
-        .min()
-        .unwrap_or(Twelve::KINDS)
+    let mut least: usize = Twelve::KINDS;
+    for i in 0..Twelve::BYTES {
+        let kind = kind_at(entities, names, form, parts, i, byte(record, i));
+        if kind < least {
+            least = kind;
+        }
+    }
+    least
 }
 
 impl From<Mistake> for Cause {

@@ -35,7 +35,12 @@ fn byte_wrong(sheet: &[u8], names: usize, i: usize) -> bool
 fn layout_wrong(sheet: &[u8], names: usize) -> bool
     ensures { result ≡ layout_wrong names sheet.now }
 {
-    (0..Block::CHECK_PLACE).any(|i| byte_wrong(sheet, names, i))
+    for i in 0..Block::CHECK_PLACE {
+        if byte_wrong(sheet, names, i) {
+            return true;
+        }
+    }
+    false
 }
 
 // Whether the bytes are a right sheet over so many names.

@@ -1,13 +1,19 @@
 -- `bundle::layout::first_wrong` meets its contract.
-use Rattle.std.proofs.Common.{rules}
-use Rattle.base.specs.Byte.{byte_at}
-use Rattle.base.proofs.Ranges.{any_ran}
-use Rattle.bundle.specs.Layout.{first_byte_wrong}
+use mathlib.Core.Path.{sym, ◌∙◌}
+use native.Mathlib.Omega.{arith}
+use Rattle.base.proofs.Lowest.{missed_more, any_hit, any_none}
 use Rattle.bundle.proofs.Stages.{first_found}
 use Rattle.bundle.proofs.layout.first_wrong.Goals as goal
 
+pub returns-then-first_byte_wrong : goal.returns-then-first_byte_wrong
+returns-then-first_byte_wrong c =
+    first_found _ _ _ _ c.byte.ensures.0 c.edition_for-edition.ensures
+    (any_hit _ _ _ (omega arith) c.loop-i.invariant (sym c.first_byte_wrong.ensures ∙ c.if-first_byte_wrong.true))
+
+pub loop-i-preserved : goal.loop-i-preserved
+loop-i-preserved c = missed_more _ _ c.loop-i.invariant (sym c.first_byte_wrong.ensures ∙ c.if-first_byte_wrong.false)
+
 pub returns : goal.returns
 returns c =
-    let first = c.args.first.now in
-    first_found _ _ _ _ c.byte.ensures.0 c.edition_for.ensures
-    (any_ran (λ k. first_byte_wrong c.edition_for.result (byte_at first 1) k (byte_at first k)) 510 _ _ _ c.any.ensures.ran (cc) (λ i b q k. search rules))
+    first_found _ _ _ _ c.byte.ensures.0 c.edition_for-edition.ensures
+    (any_none _ _ 510 (omega arith) (omega arith) (λ j l. c.loop-i.invariant j (omega arith)))

@@ -1,20 +1,26 @@
--- `records::mistake::first_kind` meets its contract: the least of the kinds that the twelve bytes show is the first that some byte shows.
-use Rattle.std.proofs.Common.{ℕ, rules, refl}
-use Rattle.std.proofs.lemmas.Iterator.{YieldsList-from_range, YieldsList-from_map}
-use Rattle.std.proofs.lemmas.Iterator.Consumers.{min_from_yields_List}
-use Rattle.base.specs.Lowest.{lowest}
-use Rattle.base.proofs.Ranges.{least_ran}
-use Rattle.records.specs.Kinds.{byte_wrong}
+-- `records::mistake::first_kind` meets its contract. The invariant: the least kind is that of the bytes passed.
+use Rattle.base.proofs.Lowest.{least_none, least_lower, least_same, least_done}
 use Rattle.records.specs.Mistake.{mistake_kind}
+use Rattle.records.proofs.Ways.{found_kind}
+use native.Mathlib.Omega.{arith}
 use Rattle.records.proofs.mistake.first_kind.Goals as goal
+use Rattle.records.proofs.mistake.first_kind.Goals.{then-kind-least, else-kind-least}
+
+pub loop-i-init : goal.loop-i-init
+loop-i-init c = (c.byte-form.ensures.0, c.byte-parts.ensures.0, least_none _ 5)
+
+pub loop-i-preserved : goal.loop-i-preserved
+loop-i-preserved c =
+    let inv = c.loop-i.invariant in
+    let found = found_kind _ _ _ _ _ _ _ c.args.«record».now inv.0 inv.1 c.byte.ensures.0 c.kind_at-kind.ensures in (
+      inv.0,
+      inv.1,
+      elim c.if-kind-least.branch [
+        | then-kind-least w ↦ rw w.least-is (least_lower _ 5 _ _ _ inv.2 found w.if-kind-least.true)
+        | else-kind-least w ↦ rw w.least-is (least_same _ 5 _ _ _ inv.2 found w.if-kind-least.false)
+      ],
+    )
 
 pub returns : goal.returns
-unfolding mistake_kind lowest
-returns c =
-    let test = byte_wrong c.args.entities c.args.names c.args.«record».now in
-    let found = λ (i : ℕ). lowest (λ k. test k i) 5 in
-    least_ran test 5 found (λ i. refl) 12 _ _
-    (min_from_yields_List c.map.result _ c.min.ensures.ran
-    (YieldsList-from_map _ found (YieldsList-from_range 0 12 12 (cc) refl) c.map.ensures.closure
-    (λ x r q k. search rules)))
-    c.unwrap_or.ensures
+unfolding mistake_kind
+returns c = least_done _ 5 12 _ _ (omega arith) (omega arith) c.loop-i.invariant.2
