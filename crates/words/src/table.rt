@@ -52,5 +52,7 @@ pub fn copy(from: &[u32], to: &mut [u32])
     ensures { to.new ≡ copied_over from.now to.old }
 {
     let end = from.len().min(to.len());
-    to[..end].copy_from_slice(&from[..end]);
+    for i in 0..end {
+        to[i] = from[i];
+    }
 }
