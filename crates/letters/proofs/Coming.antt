@@ -4,8 +4,8 @@ use native.Mathlib.Omega.{arith}
 use mathlib.Core.Path.{◌≡◌, refl, ap, sym, subst, ◌∙◌}
 use mathlib.Core.Bool.{Bool}
 use mathlib.Core.List.{List, [], ◌∷◌, ◌++◌}
-use lib.ListN.{length, get_or, take, drop, length-drop, length-append}
-use lib.Seq.{take_at, drop_at, drop-drop}
+use lib.ListN.{length, get_or, take, drop, length-take, length-drop, length-append}
+use lib.Seq.{take_at, drop_at, drop-drop, get_or-take}
 use lib.Dec.{eqb}
 use denote.Ref.{Bor}
 use denote.Param.Members.{Mut}
@@ -14,16 +14,18 @@ use Rattle.std.specs.Option.{MatchOption}
 use Rattle.std.specs.Fn.{ComputesKey, CalledAt}
 use Rattle.std.specs.List.{IsFirstMatchOrLen}
 use Rattle.std.specs.Iterator.{Yields}
+use Rattle.std.specs.Iterator.Adapters.{take_source, take_count, take_steps}
+use Rattle.std.specs.declared.iter.Take.{Take}
 use Rattle.std.specs.Slice.Iter.{split_inclusive_rest, split_inclusive_callee, chunks_exact_rest, chunks_exact_size, chunks_exact_steps}
 use Rattle.std.specs.declared.slice.SplitInclusive.{SplitInclusive}
 use Rattle.std.specs.declared.slice.ChunksExact.{ChunksExact}
 use Rattle.std.proofs.lemmas.Fn.{always_returns_same}
-use Rattle.std.proofs.lemmas.Iterator.{YieldsList}
-use Rattle.std.proofs.lemmas.Iterator.Consumers.{YieldsList-turn}
+use Rattle.std.proofs.lemmas.Iterator.{YieldsList, YieldsList-from_take}
+use Rattle.std.proofs.lemmas.Iterator.Consumers.{YieldsList-at, YieldsList-turn, YieldsList-end}
 use Rattle.std.proofs.lemmas.Iterator.Splits.{YieldsList-from_shown_while}
 use Rattle.content.specs.Content.{listed, whole_records}
 use Rattle.letters.specs.Lines.{lines_of, line_count, line_at, first_length}
-use Rattle.letters.proofs.Cut.{first_line}
+use Rattle.letters.proofs.Cut.{first_line, no_lines}
 
 -- Lines.
 
@@ -48,11 +50,6 @@ front_line (b ∷ bytes) line left i e n h some =
     ∙ ap (λ (n : ℕ). take n text ∷ lines_of (drop n text)) long
     ∙ ap (λ (l : List ℕ). l ∷ lines_of (drop (length line) text)) front
     ∙ ap (λ (l : List ℕ). line ∷ lines_of l) back
-
-no_lines : (bytes : List ℕ) → length bytes ≡ 0 → length (lines_of bytes) ≡ 0
-unfolding lines_of
-no_lines [] e = refl
-no_lines (b ∷ bytes) e = absurd (omega arith)
 
 -- one call of the iterator that cuts where a test holds
 abbrev pub cuts : {F : Type 0} → Mut F (Bor ℕ × Unit {0}) Bool → SplitInclusive ℕ F → Option (Bor (List ℕ)) → SplitInclusive ℕ F → Type 0
@@ -85,13 +82,29 @@ line_there [] n line l e = absurd (omega arith)
 line_there (first ∷ ls) zero line l e = e
 line_there (first ∷ ls) (suc n) line l e = line_there ls n line (omega arith) e
 
--- where the lines of a text come, and n have come, the next is line n
-pub line_comes : {S : Type 0} {steps : S → Option (Bor (List ℕ)) → S → Type 0} {s : S} (text : List ℕ) → YieldsList steps (λ x. x.now) s (lines_of text)
-    → (xs : List (Bor (List ℕ))) (t : S) → Yields steps s xs t → (r : Option (Bor (List ℕ))) (u : S) (x : Bor (List ℕ)) → r ≡ Some x → steps t r u
-    → (n : ℕ) → n ≡ length xs → (n < line_count text) × (x.now ≡ line_at text n)
-line_comes text come xs t y r u x e k n same =
-    let (l, here) = YieldsList-turn come xs t y r u x e k in
-    rw same (l, line_there (lines_of text) (length xs) x.now l here)
+-- where at most so many lines of a text come, and n have come
+module _ {F : Type 0} (g : Mut F (Bor ℕ × Unit {0}) Bool) {s made : Take (SplitInclusive ℕ F)} {f : F} (text : List ℕ) {most : ℕ} (begun : s ≡ made)
+    (count : take_count made ≡ most) (rest : split_inclusive_rest (take_source made) ≡ text) (closure : split_inclusive_callee (take_source made) ≡ f)
+    (tests : (x : ℕ) (b : Bool) (q : F) → CalledAt g f x b q → (q ≡ f) × (b ≡ eqb x 10))
+    (xs : List (Bor (List ℕ))) (t : Take (SplitInclusive ℕ F)) (y : Yields (take_steps (cuts g)) s xs t) (n : ℕ) (same : n ≡ length xs)
+    (r : Option (Bor (List ℕ))) (u : Take (SplitInclusive ℕ F)) (k : take_steps (cuts g) t r u) where
+  come : YieldsList (take_steps (cuts g)) (λ x. x.now) s (take most (lines_of text))
+  come = YieldsList-at begun (YieldsList-from_take most (lines_come g text rest closure tests) count)
+
+  -- the next is line n
+  pub line_comes : (x : Bor (List ℕ)) → r ≡ Some x → (n < most) × (n < line_count text) × (x.now ≡ line_at text n)
+  line_comes x e =
+      let (l, here) = YieldsList-turn come xs t y r u x e k in
+      let few = length-take most (lines_of text) in
+      let low : length xs < most = omega (arith, few) in
+      let there : length xs < line_count text = omega (arith, few) in
+      rw same (low, there, line_there (lines_of text) (length xs) x.now there (here ∙ get_or-take most (lines_of text) (length xs) x.now low))
+
+  -- all of them have come
+  pub lines_end : r ≡ None → n ≡ min most (line_count text)
+  lines_end e =
+      let (_, all) = YieldsList-end come xs t y r u e k in
+      same ∙ all ∙ length-take most (lines_of text)
 
 -- Records.
 

@@ -52,6 +52,12 @@ pub none_left : (text : List ℕ) → line_count text ≡ 0 → text ≡ []
 none_left [] e = refl
 none_left (b ∷ text) e = absurd (omega (arith, ap length (first_line b text)))
 
+-- and one without bytes has no line
+pub no_lines : (text : List ℕ) → length text ≡ 0 → line_count text ≡ 0
+unfolding lines_of
+no_lines [] e = refl
+no_lines (b ∷ text) e = absurd (omega arith)
+
 -- Bytes without a newline.
 
 record Plain (bytes : List ℕ) : Type 0 where

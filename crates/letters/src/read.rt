@@ -36,16 +36,18 @@ fn judge_lines(
     requires { (entities < 100) × (names < 100) }
     ensures { JudgedText (line_rows entities names text.now size) entities names text.now result }
 {
+    let mut at: usize = 0;
     let mut lines: usize = 0;
-    for line in text.split_inclusive(|b| *b == b'\n') {
-        if lines == Most::RECORDS {
-            return Err(Cause::TooMany.at(241));
-        }
+    for line in text.split_inclusive(|b| *b == b'\n').take(Most::RECORDS) {
         let next = lines + 1;
         if !right_line(entities, names, line) {
             return Err(Cause::Letter.at(next));
         }
+        at += line.len();
         lines = next;
+    }
+    if at < text.len() {
+        return Err(Cause::TooMany.at(241));
     }
     judge_room(lines, size)
 }

@@ -6,4 +6,4 @@ use Rattle.letters.proofs.Reading.{Passed}
 use Rattle.letters.proofs.read.judge_lines.Given as goal
 
 abbrev pub invariant-loop-line : goal.invariant-loop-line
-invariant-loop-line l = (l.lines ≡ length l.yielded) × (l.lines ≤ 240) × Passed l.entities l.names l.text l.lines
+invariant-loop-line l = (l.lines ≡ length l.yielded) × (l.lines ≤ 240) × Passed l.entities l.names l.text l.at l.lines
