@@ -8,7 +8,7 @@ ghost use Rattle.answers.specs.Answer.{outcome_of};
 ghost use Rattle.search.specs.Promise.{lent};
 ghost use Rattle.search.specs.Enough.{Enough};
 ghost use Rattle.with_sheet.specs.Promise.{SheetSearch};
-ghost use Rattle.said.specs.Said.{HoldsAllowed};
+ghost use Rattle.said.specs.Said.{HoldsAllowed, Rightly};
 ghost use Rattle.asked.specs.Input.{question_of};
 ghost use Rattle.ask_with_sheet.specs.Input.{longest_input, sheet_of, bundle_of};
 ghost use Rattle.ask_with_sheet.specs.Prints.{Prints, unreadable};
@@ -20,9 +20,9 @@ use asked::bundle_start;
 use base::byte;
 use base::refusal::Refusal;
 use bundle::question::Question;
-use input::fill;
+use input::{Failed, Input, fill};
 use rt0::Slip;
-use said::{Program, say, write};
+use said::{Program, Said, say, write_text};
 use std::io::{Read, Write};
 use with_sheet::search_with_sheet;
 use words::table::Table;
@@ -120,12 +120,26 @@ impl Program for App {
     ghost prints_longer = { prints_longer };
 }
 
+// Writes what is rightly said of the buffer.
+fn write<O: Write, E: Write>(
+    stdout: &mut O,
+    stderr: &mut E,
+    said: Said,
+    got: Result<Input, Failed>,
+    buffer: &[u8],
+)
+    requires { Rightly Prints unreadable got buffer.now said }
+{
+    write_text(stdout, said.out);
+    write_text(stderr, said.problem);
+}
+
 // The program, over any reader and writers.
 fn run<I: Read, O: Write, E: Write>(stdin: &mut I, stdout: &mut O, stderr: &mut E) {
     let mut buffer = [0u8; Memory::BUFFER];
     let got = fill(stdin, &mut buffer);
     let said = say(&App, got, &buffer);
-    write(&App, stdout, stderr, said, got, &buffer);
+    write(stdout, stderr, said, got, &buffer);
 }
 
 fn main(rt: HostRuntime) {

@@ -49,6 +49,8 @@ module _ (E R : ℕ) (marks before after : List ℕ) (room : 512 ≤ length befo
       by (refused (inr (_, inr (_, d))) _) = absurd (due_clear (list_rows E R [] ++ room_rows 0 (length before)) _ _ no_record d)
       by (passed _ _ _ (size, _)) = absurd (omega arith)
 
+-- .. whatever room there is
+module _ (E R : ℕ) (marks before after : List ℕ) where
   pub head_right : (w : Result ℕ (Refusal ℕ)) (n : ℕ) → w ≡ Ok n → Writes E R marks [] before w after → HeadWrong E R marks → ⊥
   head_right w n e h wrong = by (subst (λ (x : Result ℕ (Refusal ℕ)). Writes E R marks [] before x after) e h)
     where

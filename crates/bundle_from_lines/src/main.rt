@@ -10,7 +10,7 @@ ghost use Rattle.std.specs.Prelude.{◌+◌, ◌≤◌, length, take, []};
 ghost use Rattle.answers.specs.Line.{Holds};
 ghost use Rattle.writer.specs.Rows.{HeadWrong};
 ghost use Rattle.writer.specs.Promise.{Writes};
-ghost use Rattle.listed.specs.Listing.{ListsAllowed};
+ghost use Rattle.listed.specs.Listing.{ListsAllowed, RightlyListed};
 ghost use Rattle.desk.specs.Answer.{Gives};
 ghost use Rattle.bundle_from_lines.specs.Input.{longest_input};
 ghost use Rattle.bundle_from_lines.specs.Prints.{text_rows, head_rows, bundle_rows, BundleOf, BundleFrom, Prints, unreadable};
@@ -19,9 +19,9 @@ use answers::line::{Text, message};
 use base::byte;
 use base::refusal::{Cause, Refusal};
 use desk::listing_of;
-use input::fill;
+use input::{Failed, Input, fill};
 use letters::read::read_lines;
-use listed::{ListProgram, Listing, say, write};
+use listed::{ListProgram, Listing, say, write_listing};
 use std::io::{Read, Write};
 
 // The bytes before the text.
@@ -75,8 +75,9 @@ fn from_text(
     records: &mut [u8],
     bundle: &mut [u8],
 ) -> Result<usize, Refusal<usize>>
-    requires { (HeadWrong entities names marks.now → ⊥) × (2880 ≤ length records.old) × (3584 ≤ length bundle.old) }
-    ensures { Gives (text_rows entities names text.now) (BundleOf entities names marks.now text.now)
+    requires { (HeadWrong entities names marks.now → ⊥) × (2880 ≤ length records.old) }
+    ensures { 3584 ≤ length bundle.old
+        → Gives (text_rows entities names text.now) (BundleOf entities names marks.now text.now)
         bundle.new result }
 {
     let n = read_lines(entities, names, text, records)?;
@@ -92,8 +93,9 @@ fn from_head(
     records: &mut [u8],
     bundle: &mut [u8],
 ) -> Result<usize, Refusal<usize>>
-    requires { (2880 ≤ length records.old) × (3584 ≤ length bundle.old) }
-    ensures { Gives (head_rows entities names marks.now text.now)
+    requires { 2880 ≤ length records.old }
+    ensures { 3584 ≤ length bundle.old
+        → Gives (head_rows entities names marks.now text.now)
         (BundleOf entities names marks.now text.now) bundle.new result }
 {
     writer::write::write(entities, names, marks, b"", bundle)?;
@@ -102,8 +104,9 @@ fn from_head(
 
 // The bundle from the bytes of standard input.
 fn from_input(input: &[u8], records: &mut [u8], bundle: &mut [u8]) -> Result<usize, Refusal<usize>>
-    requires { (2880 ≤ length records.old) × (3584 ≤ length bundle.old) }
-    ensures { Gives (bundle_rows input.now) (BundleFrom input.now) bundle.new result }
+    requires { 2880 ≤ length records.old }
+    ensures { 3584 ≤ length bundle.old
+        → Gives (bundle_rows input.now) (BundleFrom input.now) bundle.new result }
 {
     if input.len() < Head::BYTES {
         return Err(Cause::Layout.at(0));
@@ -122,10 +125,10 @@ fn from_input(input: &[u8], records: &mut [u8], bundle: &mut [u8]) -> Result<usi
     )
 }
 
-// What is said of these bytes.
+// What is said of these bytes, and rightly with room enough for the bundle.
 fn listing_for(input: &[u8], bundle: &mut [u8]) -> Listing
-    requires { 3584 ≤ length bundle.old }
-    ensures { ListsAllowed bundle.new result (Prints input.now) × Holds result.problem [] }
+    ensures { 3584 ≤ length bundle.old
+        → ListsAllowed bundle.new result (Prints input.now) × Holds result.problem [] }
 {
     let mut records = [0u8; Memory::RECORDS];
     let wrote = from_input(input, &mut records, bundle);
@@ -158,13 +161,27 @@ impl ListProgram for App {
     }
 }
 
+// Writes what is rightly said of the buffer.
+fn write<O: Write, E: Write>(
+    stdout: &mut O,
+    stderr: &mut E,
+    listing: Listing,
+    got: Result<Input, Failed>,
+    buffer: &[u8],
+    bundle: &[u8],
+)
+    requires { RightlyListed Prints unreadable got buffer.now bundle.now listing }
+{
+    write_listing(stdout, stderr, listing, bundle);
+}
+
 // The program, over any reader and writers.
 fn run<I: Read, O: Write, E: Write>(stdin: &mut I, stdout: &mut O, stderr: &mut E) {
     let mut buffer = [0u8; Memory::BUFFER];
     let got = fill(stdin, &mut buffer);
     let mut bundle = [0u8; Memory::BUNDLE];
     let listing = say(&App, got, &buffer, &mut bundle);
-    write(&App, stdout, stderr, listing, got, &buffer, &bundle);
+    write(stdout, stderr, listing, got, &buffer, &bundle);
 }
 
 fn main(rt: HostRuntime) {

@@ -8,7 +8,7 @@ ghost use Rattle.std.specs.Prelude.{◌≤◌, length, []};
 ghost use Rattle.answers.specs.Line.{Holds};
 ghost use Rattle.holder_lines.specs.Sizes.{holders_bytes};
 ghost use Rattle.holder_lines.specs.Promise.{HoldersPromise};
-ghost use Rattle.listed.specs.Listing.{ListsAllowed};
+ghost use Rattle.listed.specs.Listing.{ListsAllowed, RightlyListed};
 ghost use Rattle.holders.specs.Input.{longest_input, sheet_of, bundle_of};
 ghost use Rattle.holders.specs.Prints.{Prints, unreadable};
 
@@ -17,8 +17,8 @@ use asked::bundle_start;
 use base::refusal::Refusal;
 use block::Block;
 use holder_lines::Room;
-use input::fill;
-use listed::{ListProgram, Listing, listing_of, say, write};
+use input::{Failed, Input, fill};
+use listed::{ListProgram, Listing, listing_of, say, write_listing};
 use std::io::{Read, Write};
 
 // The memory of the program.
@@ -38,10 +38,10 @@ fn list(input: &[u8], text: &mut [u8]) -> Result<usize, Refusal<u16>>
     holder_lines::list(&input[start..], &input[..start], text)
 }
 
-// What is said of these bytes, with room enough for the text.
+// What is said of these bytes, and rightly with room enough for the text.
 fn listing_for(input: &[u8], text: &mut [u8]) -> Listing
-    requires { holders_bytes ≤ length text.old }
-    ensures { ListsAllowed text.new result (Prints input.now) × Holds result.problem [] }
+    ensures { holders_bytes ≤ length text.old
+        → ListsAllowed text.new result (Prints input.now) × Holds result.problem [] }
 {
     let listed = list(input, text);
     listing_of(listed)
@@ -76,13 +76,27 @@ impl ListProgram for App {
     }
 }
 
+// Writes what is rightly said of the buffer.
+fn write<O: Write, E: Write>(
+    stdout: &mut O,
+    stderr: &mut E,
+    listing: Listing,
+    got: Result<Input, Failed>,
+    buffer: &[u8],
+    text: &[u8],
+)
+    requires { RightlyListed Prints unreadable got buffer.now text.now listing }
+{
+    write_listing(stdout, stderr, listing, text);
+}
+
 // The program, over any reader and writers.
 fn run<I: Read, O: Write, E: Write>(stdin: &mut I, stdout: &mut O, stderr: &mut E) {
     let mut buffer = [0u8; Memory::BUFFER];
     let got = fill(stdin, &mut buffer);
     let mut text = [0u8; Room::BYTES];
     let listing = say(&App, got, &buffer, &mut text);
-    write(&App, stdout, stderr, listing, got, &buffer, &text);
+    write(stdout, stderr, listing, got, &buffer, &text);
 }
 
 fn main(rt: HostRuntime) {

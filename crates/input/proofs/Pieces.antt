@@ -6,6 +6,7 @@ use mathlib.Core.Path.{◌≡◌, refl, ap, sym, subst, ◌∙◌}
 use mathlib.Core.List.{List, [], ◌∷◌, ◌++◌, append-nil, append_assoc}
 use lib.ListN.{length, take, drop, length-append, length-drop, drop_of_length-le}
 use lib.Seq.{take_at, take_all, take-length, drop-append-add, drop-drop}
+use Rattle.input.specs.declared.Failed.{Failed}
 use Rattle.input.specs.declared.Input.{Input}
 use Rattle.input.specs.declared.Input.TheVariants.{Whole}
 use Rattle.std.specs.Prelude.{Option, Some, None, Result, Ok, Err}
@@ -36,13 +37,13 @@ pub came_length : {n : ℕ} {before after : List ℕ} → Came n before after �
 came_length {n} {before} c = ap length c.placed ∙ simp (length-append, length-drop) (omega arith)
 
 -- a full buffer: what is said of so many bytes in as much room is said of this buffer
-pub filled_whole : {E : Type 0} {n : ℕ} {before now : List ℕ} (said : Result Input E) → Came n before now → length now ≤ n → Says said n n → Filled before now said
-filled_whole {n = n} {before} said c full s =
+pub filled_whole : {n : ℕ} {before now : List ℕ} (said : Result Input Failed) → Came n before now → length now ≤ n → Says said n n → Filled before now said
+filled_whole {n} {before} said c full s =
     let all : n ≡ length before = omega (arith, came_length c) in
     record { count = n; came = c; says = subst (λ (size : ℕ). Says said n size) all s }
 
 -- what is said to be the whole input stands in the buffer
-pub whole_fits : {E : Type 0} {before now : List ℕ} {said : Result Input E} (n : ℕ) → said ≡ Ok (Whole n) → Filled before now said → n ≤ length now
+pub whole_fits : {before now : List ℕ} {said : Result Input Failed} (n : ℕ) → said ≡ Ok (Whole n) → Filled before now said → n ≤ length now
 whole_fits n e f = omega (arith, came_length f.came, rw e at f.says)
 
 -- a part of the buffer that reaches to its end comes back with a piece at its start
@@ -75,13 +76,13 @@ came_more {done} {n} {before} {now} {after} c m =
     }
 
 -- a piece more
-pub came_piece : {E : Type 0} {done n : ℕ} {before now after : List ℕ} {piece : Result (Option ℕ) E} → Came done before now → piece ≡ Ok (Some n)
+pub came_piece : {done n : ℕ} {before now after : List ℕ} {piece : Result (Option ℕ) Failed} → Came done before now → piece ≡ Ok (Some n)
     → Added done now after piece → Came (done + n) before after
 came_piece c e a = came_more c (rw e at a)
 
 -- no piece more: the input has ended, or the read failed
-pub filled_before : {E : Type 0} {done : ℕ} {before now after : List ℕ} (piece : Result (Option ℕ) E) → ((n : ℕ) → piece ≡ Ok (Some n) → ⊥)
+pub filled_before : {done : ℕ} {before now after : List ℕ} (piece : Result (Option ℕ) Failed) → ((n : ℕ) → piece ≡ Ok (Some n) → ⊥)
     → Came done before now → Added done now after piece → Filled before after (said_after piece done)
 filled_before (Ok (Some n)) none c a = absurd (none n refl)
 filled_before (Ok None) none c a = record { count = _; came = came_same c a; says = refl }
-filled_before (Err error) none c a = record { count = _; came = came_same c a; says = tt }
+filled_before (Err error) none c a = record { count = _; came = came_same c a.0; says = a.1 }

@@ -4,6 +4,7 @@
 -- can say: a read of standard input promises nothing of them. So the promise says "there are pieces such that", and what follows of
 -- the buffer and of the answer.
 use Rattle.std.specs.Prelude.{ℕ, zero, suc, ◌+◌, ◌<◌, ◌≤◌, ◌≡◌, List, [], ◌∷◌, ◌++◌, length, take, drop, Option, Some, None, Result, Ok, Err}
+use Rattle.input.specs.declared.Failed.{Failed}
 use Rattle.input.specs.declared.Input.{Input}
 use Rattle.input.specs.declared.Input.TheVariants.{Whole, Longer}
 
@@ -17,12 +18,16 @@ unfoldable pub NoneEmpty : List (List ℕ) → Type 0
 NoneEmpty [] = Unit {0}
 NoneEmpty (piece ∷ pieces) = (0 < length piece) × NoneEmpty pieces
 
+-- what stands for the error of a read that failed: the one value of its type
+abbrev pub failure : Failed
+failure = record {}
+
 -- what is said where so many bytes of a buffer of that size were read: that they are the whole input; that the input is longer than the
--- buffer, which is then full; or the error of a read that failed, whatever came
-abbrev pub Says : {E : Type 0} → Result Input E → ℕ → ℕ → Type 0
+-- buffer, which is then full; or that a read failed
+abbrev pub Says : Result Input Failed → ℕ → ℕ → Type 0
 Says (Ok (Whole n)) came size = n ≡ came
 Says (Ok Longer) came size = came ≡ size
-Says (Err error) came size = Unit {0}
+Says (Err error) came size = error ≡ failure
 
 -- So many bytes of the input came into a buffer: behind each piece stands the next one, no byte before a piece is touched, and behind
 -- the last one stands what stood there before. So the buffer keeps its length.
@@ -34,22 +39,22 @@ pub record Came (n : ℕ) (before after : List ℕ) : Type 0 where
   pub placed : after ≡ joined pieces ++ drop n before
 
 -- a buffer was filled, and what is said fits what came
-pub record Filled {E : Type 0} (before after : List ℕ) (said : Result Input E) : Type 0 where
+pub record Filled (before after : List ℕ) (said : Result Input Failed) : Type 0 where
   pub count : ℕ
   pub came : Came count before after
   pub says : Says said count (length before)
 
--- what one read gave, by what it answered: its error where it failed, else how many bytes came, or none at the end of the input
-abbrev pub given_by : {E : Type 0} → Result ℕ E → Result (Option ℕ) E
-given_by (Err error) = Err error
+-- what one read gave, by what it answered: a failure, whatever the error is, else how many bytes came, or none at the end of the input
+abbrev pub given_by : {E : Type 0} → Result ℕ E → Result (Option ℕ) Failed
+given_by (Err error) = Err failure
 given_by (Ok zero) = Ok None
 given_by (Ok (suc n)) = Ok (Some (suc n))
 
 -- .. which a read of at most so many bytes that keeps its contract makes one of these
-abbrev pub Given : {E : Type 0} → ℕ → Result (Option ℕ) E → Type 0
+abbrev pub Given : ℕ → Result (Option ℕ) Failed → Type 0
 Given most (Ok (Some n)) = (0 < n) × (n ≤ most)
 Given most (Ok None) = Unit {0}
-Given most (Err error) = Unit {0}
+Given most (Err error) = error ≡ failure
 
 -- what is said by what the last read gave, with so many bytes before it; where it gave bytes, there was no room for them
 abbrev pub said_after : {E : Type 0} → Result (Option ℕ) E → ℕ → Result Input E
@@ -70,7 +75,7 @@ pub record OneMore (done : ℕ) (before after : List ℕ) (n : ℕ) : Type 0 whe
   pub placed : after ≡ placed_at done piece before
 
 -- what one read did: a piece more, or nothing
-abbrev pub Added : {E : Type 0} → ℕ → List ℕ → List ℕ → Result (Option ℕ) E → Type 0
+abbrev pub Added : ℕ → List ℕ → List ℕ → Result (Option ℕ) Failed → Type 0
 Added done before after (Ok (Some n)) = OneMore done before after n
 Added done before after (Ok None) = after ≡ before
-Added done before after (Err error) = after ≡ before
+Added done before after (Err error) = (after ≡ before) × (error ≡ failure)

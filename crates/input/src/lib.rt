@@ -19,21 +19,26 @@ pub enum Input {
     Longer,
 }
 
+// A read of standard input failed. Nothing more is known of it, and the type has one value: of the library's error nothing is promised.
+#[derive(Clone, Copy, Debug, PartialEq, Eq)]
+pub struct Failed;
+
 // The most bytes that are asked for at once.
 const MOST_AT_ONCE: usize = 512;
 
-// What a read gave, by what it answered: so many bytes, at least one, or none at the end of the input.
-fn given_by(answer: io::Result<usize>) -> io::Result<Option<usize>>
+// What a read gave, by what it answered: so many bytes, at least one, or none at the end of the input. Whatever the error, it failed.
+fn given_by(answer: io::Result<usize>) -> Result<Option<usize>, Failed>
     ensures { result ≡ given_by answer }
 {
-    match answer? {
-        0 => Ok(None),
-        n => Ok(Some(n)),
+    match answer {
+        Ok(0) => Ok(None),
+        Ok(n) => Ok(Some(n)),
+        Err(_) => Err(Failed),
     }
 }
 
 // One read of standard input, into the space from its start. Where the space has no byte, nothing is said of the end.
-fn read_some<R: Read>(stdin: &mut R, space: &mut [u8]) -> io::Result<Option<usize>>
+fn read_some<R: Read>(stdin: &mut R, space: &mut [u8]) -> Result<Option<usize>, Failed>
     requires { 0 < length space.old }
     ensures { Given (length space.old) result }
 {
@@ -56,7 +61,7 @@ fn read_piece<R: Read>(
     space: &mut [u8],
     buffer: &mut [u8],
     done: usize,
-) -> io::Result<Option<usize>>
+) -> Result<Option<usize>, Failed>
     requires { (0 < length space.old) × (done < length buffer.old) }
     ensures { Added done buffer.old buffer.new result }
 {
@@ -69,7 +74,11 @@ fn read_piece<R: Read>(
 }
 
 // The next piece of standard input, behind the first `done` bytes of the buffer.
-fn next_piece<R: Read>(stdin: &mut R, buffer: &mut [u8], done: usize) -> io::Result<Option<usize>>
+fn next_piece<R: Read>(
+    stdin: &mut R,
+    buffer: &mut [u8],
+    done: usize,
+) -> Result<Option<usize>, Failed>
     requires { done < length buffer.old }
     ensures { Added done buffer.old buffer.new result }
 {
@@ -79,7 +88,7 @@ fn next_piece<R: Read>(stdin: &mut R, buffer: &mut [u8], done: usize) -> io::Res
 
 // What is said of the input by what the last read gave, with so many bytes before it. Bytes that the buffer has no room for say that the
 // input is longer.
-fn said_after(last: io::Result<Option<usize>>, done: usize) -> io::Result<Input>
+fn said_after(last: Result<Option<usize>, Failed>, done: usize) -> Result<Input, Failed>
     ensures { result ≡ said_after last done }
 {
     match last? {
@@ -89,7 +98,7 @@ fn said_after(last: io::Result<Option<usize>>, done: usize) -> io::Result<Input>
 }
 
 // What is said of a full buffer of that size: one byte more is asked for, and kept nowhere.
-fn past_the_end<R: Read>(stdin: &mut R, size: usize) -> io::Result<Input>
+fn past_the_end<R: Read>(stdin: &mut R, size: usize) -> Result<Input, Failed>
     ensures { Says result size size }
 {
     let mut more = [0u8; 1];
@@ -98,7 +107,7 @@ fn past_the_end<R: Read>(stdin: &mut R, size: usize) -> io::Result<Input>
 
 // Reads standard input into the buffer, until it ends, is longer than the buffer or a read fails. Where one fails nothing is known of the
 // input behind what was read.
-pub fn fill<R: Read>(stdin: &mut R, buffer: &mut [u8]) -> io::Result<Input>
+pub fn fill<R: Read>(stdin: &mut R, buffer: &mut [u8]) -> Result<Input, Failed>
     ensures { Filled buffer.old buffer.new result }
 {
     let mut done: usize = 0;

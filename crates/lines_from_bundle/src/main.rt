@@ -11,7 +11,7 @@ ghost use Rattle.bundle.specs.Rows.{reader_rows, Accepts};
 ghost use Rattle.text.specs.Written.{Wrote as WroteFrom};
 ghost use Rattle.letters.specs.Promise.{Writes};
 ghost use Rattle.answers.specs.Line.{Holds};
-ghost use Rattle.listed.specs.Listing.{ListsAllowed};
+ghost use Rattle.listed.specs.Listing.{ListsAllowed, RightlyListed};
 ghost use Rattle.desk.specs.Answer.{Gives};
 ghost use Rattle.lines_from_bundle.specs.Gathered.{gathered};
 ghost use Rattle.lines_from_bundle.specs.Prints.{LinesFrom, Prints, unreadable};
@@ -21,9 +21,9 @@ use base::refusal::Refusal;
 use block::{Block, RecordPlace};
 use bundle::read::{Sizes, read};
 use desk::listing_of;
-use input::fill;
+use input::{Failed, Input, fill};
 use letters::write::write_lines;
-use listed::{ListProgram, Listing, say, write};
+use listed::{ListProgram, Listing, say, write_listing};
 use std::io::{Read, Write};
 use text::word;
 
@@ -96,8 +96,9 @@ fn from_records(
     records: &mut [u8],
     text: &mut [u8],
 ) -> Result<usize, Refusal<usize>>
-    requires { Accepts bundle.now sizes × (2880 ≤ length records.old) × (9360 ≤ length text.old) }
-    ensures { Gives (reader_rows bundle.now) (LinesFrom bundle.now) text.new result }
+    requires { Accepts bundle.now sizes × (2880 ≤ length records.old) }
+    ensures { 9360 ≤ length text.old
+        → Gives (reader_rows bundle.now) (LinesFrom bundle.now) text.new result }
 {
     let entities = sizes.entities as u8;
     let names = sizes.names as u8;
@@ -107,17 +108,18 @@ fn from_records(
 
 // The lines of a bundle.
 fn from_bundle(bundle: &[u8], records: &mut [u8], text: &mut [u8]) -> Result<usize, Refusal<usize>>
-    requires { (2880 ≤ length records.old) × (9360 ≤ length text.old) }
-    ensures { Gives (reader_rows bundle.now) (LinesFrom bundle.now) text.new result }
+    requires { 2880 ≤ length records.old }
+    ensures { 9360 ≤ length text.old
+        → Gives (reader_rows bundle.now) (LinesFrom bundle.now) text.new result }
 {
     let sizes = read(bundle)?;
     from_records(bundle, sizes, records, text)
 }
 
-// What is said of these bytes.
+// What is said of these bytes, and rightly with room enough for the text.
 fn listing_for(bundle: &[u8], text: &mut [u8]) -> Listing
-    requires { 9360 ≤ length text.old }
-    ensures { ListsAllowed text.new result (Prints bundle.now) × Holds result.problem [] }
+    ensures { 9360 ≤ length text.old
+        → ListsAllowed text.new result (Prints bundle.now) × Holds result.problem [] }
 {
     let mut records = [0u8; Memory::RECORDS];
     let wrote = from_bundle(bundle, &mut records, text);
@@ -153,13 +155,27 @@ impl ListProgram for App {
     }
 }
 
+// Writes what is rightly said of the buffer.
+fn write<O: Write, E: Write>(
+    stdout: &mut O,
+    stderr: &mut E,
+    listing: Listing,
+    got: Result<Input, Failed>,
+    buffer: &[u8],
+    text: &[u8],
+)
+    requires { RightlyListed Prints unreadable got buffer.now text.now listing }
+{
+    write_listing(stdout, stderr, listing, text);
+}
+
 // The program, over any reader and writers.
 fn run<I: Read, O: Write, E: Write>(stdin: &mut I, stdout: &mut O, stderr: &mut E) {
     let mut buffer = [0u8; Memory::BUFFER];
     let got = fill(stdin, &mut buffer);
     let mut text = [0u8; Memory::TEXT];
     let listing = say(&App, got, &buffer, &mut text);
-    write(&App, stdout, stderr, listing, got, &buffer, &text);
+    write(stdout, stderr, listing, got, &buffer, &text);
 }
 
 fn main(rt: HostRuntime) {

@@ -1,5 +1,6 @@
 // What the programs of lists say, and the writing of it: a list that stands in lent memory, or the line of a refusal, and a message. The
-// programs say and write by the functions of this crate.
+// programs say it by `say`. Each has a `write` of its own, which is private: it has to ask that what it writes is rightly said of what was read,
+// and what is public asks nothing.
 #![tactic(auto)]
 
 ghost use Rattle.std.specs.Prelude.{ℕ, List, [], ◌≡◌, ◌≤◌, length, take};
@@ -9,9 +10,8 @@ ghost use Rattle.listed.specs.Listing.{ListsAllowed, RightlyListed, Tells};
 
 use answers::line::{Text, empty, refusal};
 use base::refusal::Refusal;
-use input::Input;
+use input::{Failed, Input};
 use said::write_text;
-use std::io;
 use std::io::Write;
 
 // So many bytes of the lent text and then a line on standard output, and a message on standard error.
@@ -50,39 +50,42 @@ pub trait ListProgram {
     // The message where standard input cannot be read to its end.
     ghost unreadable: { List ℕ };
 
-    // The fewest bytes that the buffer for standard input may have.
+    // The fewest bytes of a buffer for standard input by which a longer input is rightly answered.
     ghost least_buffer: { ℕ };
 
-    // The fewest bytes that the memory for the text may have.
+    // The fewest bytes of memory for the text by which an input is rightly answered.
     ghost least_text: { ℕ };
 
     // The answer to an input.
     fn listing_for(&self, input: &[u8], text: &mut [u8]) -> Listing
-        requires { least_text ≤ length text.old }
-        ensures { ListsAllowed text.new result (prints input.now) × Holds result.problem [] };
+        ensures { least_text ≤ length text.old
+            → ListsAllowed text.new result (prints input.now) × Holds result.problem [] };
 
     // The answer to every input that is longer than the buffer, which holds its first bytes.
     fn longer(&self, buffer: &[u8], text: &mut [u8]) -> Listing
-        requires { (least_buffer ≤ length buffer.now) × (least_text ≤ length text.old) }
-        ensures { ListsAllowed text.new result (PrintsLonger prints buffer.now) × Holds result.problem [] };
+        ensures { least_buffer ≤ length buffer.now → least_text ≤ length text.old
+            → ListsAllowed text.new result (PrintsLonger prints buffer.now) × Holds result.problem [] };
 
     // The text of the message.
     fn problem(&self) -> Text
         ensures { Holds result unreadable };
 }
 
-// What is said of a buffer that standard input was read into.
+// What is said of a buffer, and rightly where standard input was read into it and buffer and text have room enough.
 pub fn say<P: ListProgram>(
     program: &P,
-    got: io::Result<Input>,
+    got: Result<Input, Failed>,
     buffer: &[u8],
     text: &mut [u8],
 ) -> Listing
-    requires { (P.least_buffer ≤ length buffer.now) × Read got buffer.now × (P.least_text ≤ length text.old) }
-    ensures { RightlyListed P.prints P.unreadable got buffer.now text.new result }
+    ensures { P.least_buffer ≤ length buffer.now → Read got buffer.now → P.least_text ≤ length text.old
+        → RightlyListed P.prints P.unreadable got buffer.now text.new result }
 {
     match got {
-        Ok(Input::Whole(n)) => program.listing_for(&buffer[..n], text),
+        Ok(Input::Whole(n)) => {
+            let end = n.min(buffer.len());
+            program.listing_for(&buffer[..end], text)
+        }
         Ok(Input::Longer) => program.longer(buffer, text),
         Err(_) => Listing {
             length: 0,
@@ -90,21 +93,6 @@ pub fn say<P: ListProgram>(
             problem: program.problem(),
         },
     }
-}
-
-// Writes what is rightly said of the buffer.
-pub fn write<P: ListProgram, O: Write, E: Write>(
-    program: &P,
-    stdout: &mut O,
-    stderr: &mut E,
-    listing: Listing,
-    got: io::Result<Input>,
-    buffer: &[u8],
-    text: &[u8],
-)
-    requires { RightlyListed P.prints P.unreadable got buffer.now text.now listing }
-{
-    write_listing(stdout, stderr, listing, text);
 }
 
 // Writes bytes, which are the first ones of a text. Where they cannot be written nothing else is said.

@@ -6,15 +6,15 @@
 #![tactic(auto)]
 
 ghost use Rattle.bundle.specs.Rows.{Accepts};
-ghost use Rattle.said.specs.Said.{HoldsAllowed};
+ghost use Rattle.said.specs.Said.{HoldsAllowed, Rightly};
 ghost use Rattle.bundle.specs.Layout.{longest_bundle};
 ghost use Rattle.read_bundle.specs.Prints.{Prints, unreadable};
 ghost use Rattle.read_bundle.specs.Longer.{prints_longer};
 
 use answers::line::{Text, accepted, message, refusal};
 use bundle::read::{Sizes, read};
-use input::fill;
-use said::{Program, say, write};
+use input::{Failed, Input, fill};
+use said::{Program, Said, say, write_text};
 use std::io::{Read, Write};
 
 // The memory of the program.
@@ -72,12 +72,26 @@ impl Program for App {
     ghost prints_longer = { prints_longer };
 }
 
+// Writes what is rightly said of the buffer.
+fn write<O: Write, E: Write>(
+    stdout: &mut O,
+    stderr: &mut E,
+    said: Said,
+    got: Result<Input, Failed>,
+    buffer: &[u8],
+)
+    requires { Rightly Prints unreadable got buffer.now said }
+{
+    write_text(stdout, said.out);
+    write_text(stderr, said.problem);
+}
+
 // The program, over any reader and writers.
 fn run<I: Read, O: Write, E: Write>(stdin: &mut I, stdout: &mut O, stderr: &mut E) {
     let mut buffer = [0u8; Memory::BUFFER];
     let got = fill(stdin, &mut buffer);
     let said = say(&App, got, &buffer);
-    write(&App, stdout, stderr, said, got, &buffer);
+    write(stdout, stderr, said, got, &buffer);
 }
 
 fn main(rt: HostRuntime) {

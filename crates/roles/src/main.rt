@@ -8,7 +8,7 @@ ghost use Rattle.std.specs.Prelude.{◌≤◌, length, []};
 ghost use Rattle.answers.specs.Line.{Holds};
 ghost use Rattle.lines.specs.Sizes.{roles_bytes};
 ghost use Rattle.lists.specs.Promise.{RolesPromise};
-ghost use Rattle.listed.specs.Listing.{ListsAllowed};
+ghost use Rattle.listed.specs.Listing.{ListsAllowed, RightlyListed};
 ghost use Rattle.roles.specs.Input.{longest_input, bundle_of, person_of};
 ghost use Rattle.roles.specs.Prints.{Prints, unreadable};
 
@@ -16,9 +16,9 @@ use answers::line::{Text, empty, message, refusal};
 use asked::bundle_start;
 use base::byte;
 use base::refusal::Refusal;
-use input::fill;
+use input::{Failed, Input, fill};
 use lines::Room;
-use listed::{ListProgram, Listing, listing_of, say, write};
+use listed::{ListProgram, Listing, listing_of, say, write_listing};
 use lists::roles;
 use std::io::{Read, Write};
 
@@ -48,10 +48,10 @@ fn list(input: &[u8], text: &mut [u8]) -> Result<usize, Refusal<u16>>
     roles(&input[start..], d, text)
 }
 
-// What is said of these bytes, with room enough for the list.
+// What is said of these bytes, and rightly with room enough for the list.
 fn listing_for(input: &[u8], text: &mut [u8]) -> Listing
-    requires { roles_bytes ≤ length text.old }
-    ensures { ListsAllowed text.new result (Prints input.now) × Holds result.problem [] }
+    ensures { roles_bytes ≤ length text.old
+        → ListsAllowed text.new result (Prints input.now) × Holds result.problem [] }
 {
     let listed = list(input, text);
     listing_of(listed)
@@ -86,13 +86,27 @@ impl ListProgram for App {
     }
 }
 
+// Writes what is rightly said of the buffer.
+fn write<O: Write, E: Write>(
+    stdout: &mut O,
+    stderr: &mut E,
+    listing: Listing,
+    got: Result<Input, Failed>,
+    buffer: &[u8],
+    text: &[u8],
+)
+    requires { RightlyListed Prints unreadable got buffer.now text.now listing }
+{
+    write_listing(stdout, stderr, listing, text);
+}
+
 // The program, over any reader and writers.
 fn run<I: Read, O: Write, E: Write>(stdin: &mut I, stdout: &mut O, stderr: &mut E) {
     let mut buffer = [0u8; Memory::BUFFER];
     let got = fill(stdin, &mut buffer);
     let mut text = [0u8; Room::ROLES];
     let listing = say(&App, got, &buffer, &mut text);
-    write(&App, stdout, stderr, listing, got, &buffer, &text);
+    write(stdout, stderr, listing, got, &buffer, &text);
 }
 
 fn main(rt: HostRuntime) {

@@ -1,6 +1,6 @@
 -- What is rightly said of a buffer that standard input was read into, whatever may be printed: each kind of input by itself, and that what
 -- is said is two texts, of which `write_text` writes the bytes that they hold.
-use Prim.Native.Nat.{ℕ, ◌<◌, ◌≤◌}
+use Prim.Native.Nat.{ℕ, ◌<◌, ◌≤◌, min}
 use native.Mathlib.Omega.{arith}
 use mathlib.Core.Path.{◌≡◌, refl}
 use mathlib.Core.List.{List, []}
@@ -9,10 +9,12 @@ use Rattle.std.specs.Prelude.{Result, Ok, Err}
 use Rattle.answers.specs.Line.{Holds}
 use Rattle.answers.specs.declared.line.Text.{Text}
 use Rattle.answers.proofs.Text.{one_text}
+use Rattle.input.specs.declared.Failed.{Failed}
 use Rattle.input.specs.declared.Input.{Input}
 use Rattle.input.specs.declared.Input.TheVariants.{Whole, Longer}
+use Rattle.input.proofs.Pieces.{whole_fits}
 use Rattle.said.specs.declared.Said.{Said}
-use Rattle.said.specs.Said.{HoldsAllowed, PrintsLonger, RightlyBy, Rightly}
+use Rattle.said.specs.Said.{HoldsAllowed, Read, PrintsLonger, RightlyBy, Rightly}
 
 -- whatever holds the output
 module _ {E : Type 0} (Shows : (List ℕ → Type 0) → Type 0) (problem : Text) (Prints : List ℕ → List ℕ → Type 0) (unreadable : List ℕ) (got : Result Input E) (buffer : List ℕ) where
@@ -28,6 +30,10 @@ module _ {E : Type 0} (Shows : (List ℕ → Type 0) → Type 0) (problem : Text
   pub by_failed : {error : E} → got ≡ Err error → Shows (λ shown. shown ≡ []) → Holds problem unreadable
       → RightlyBy Shows problem Prints unreadable got buffer
   by_failed e out said = rw e (out, said)
+
+-- what was read and is whole is no longer than the buffer
+pub whole_end : {got : Result Input Failed} {buffer : List ℕ} (n end : ℕ) → got ≡ Ok (Whole n) → end ≡ min n (length buffer) → Read got buffer → end ≡ n
+whole_end n end e cut (before, filled) = omega (arith, whole_fits n e filled)
 
 -- every input longer than some bound may have this line, and the buffer is no shorter than that
 pub prints_every_longer : (Prints : List ℕ → List ℕ → Type 0) (buffer : List ℕ) (longest : ℕ) (line : List ℕ)

@@ -3,6 +3,7 @@
 use Rattle.std.specs.Prelude.{ℕ, ◌<◌, ◌≡◌, List, [], ◌++◌, length, take, Result, Ok, Err}
 use Rattle.answers.specs.declared.line.Text.{Text}
 use Rattle.answers.specs.Line.{Holds}
+use Rattle.input.specs.declared.Failed.{Failed}
 use Rattle.input.specs.declared.Input.{Input}
 use Rattle.input.specs.declared.Input.TheVariants.{Whole, Longer}
 use Rattle.input.specs.Input.{Filled}
@@ -19,7 +20,7 @@ pub record HoldsAllowed (Allowed : List ℕ → Type 0) (text : Text) : Type 0 w
   pub allowed : Allowed shown
 
 -- a buffer that standard input was read into, and what reading said of it
-abbrev pub Read : {E : Type 0} → Result Input E → List ℕ → Type 0
+abbrev pub Read : Result Input Failed → List ℕ → Type 0
 Read got buffer = (before : List ℕ) × Filled before buffer got
 
 -- bytes that may be printed for every input longer than this buffer, which holds its first bytes

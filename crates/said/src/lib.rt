@@ -1,5 +1,6 @@
 // What a program says, on standard output and on standard error, and the writing of it. What is rightly said of standard input stands in
-// specs/, once for every program, and the programs that answer with one text say and write by the functions of this crate.
+// specs/, once for every program, and the programs that answer with one text say it by `say`. Each has a `write` of its own, which is
+// private: it has to ask that what it writes is rightly said of what was read, and what is public asks nothing.
 #![tactic(auto)]
 
 ghost use Rattle.std.specs.Prelude.{ℕ, List, ◌≡◌, ◌<◌, ◌≤◌, length};
@@ -7,8 +8,7 @@ ghost use Rattle.answers.specs.Line.{Holds, refusal_line};
 ghost use Rattle.said.specs.Said.{HoldsAllowed, Read, Rightly, shown_by};
 
 use answers::line::{Text, empty};
-use input::Input;
-use std::io;
+use input::{Failed, Input};
 use std::io::Write;
 
 // What a program says: on standard output and on standard error.
@@ -47,16 +47,19 @@ pub trait Program {
     ghost prints_longer: { (input : List ℕ) → longest < length input → prints input (refusal_line 1 0) };
 }
 
-// What is said of a buffer that standard input was read into.
-pub fn say<P: Program>(program: &P, got: io::Result<Input>, buffer: &[u8]) -> Said
-    requires { (P.longest ≤ length buffer.now) × Read got buffer.now }
-    ensures { Rightly P.prints P.unreadable got buffer.now result }
+// What is said of a buffer, and rightly where standard input was read into it and it has room for the longest input.
+pub fn say<P: Program>(program: &P, got: Result<Input, Failed>, buffer: &[u8]) -> Said
+    ensures { P.longest ≤ length buffer.now → Read got buffer.now
+        → Rightly P.prints P.unreadable got buffer.now result }
 {
     match got {
-        Ok(Input::Whole(n)) => Said {
-            out: program.line_for(&buffer[..n]),
-            problem: empty(),
-        },
+        Ok(Input::Whole(n)) => {
+            let end = n.min(buffer.len());
+            Said {
+                out: program.line_for(&buffer[..end]),
+                problem: empty(),
+            }
+        }
         Ok(Input::Longer) => Said {
             out: program.longer(),
             problem: empty(),
@@ -66,21 +69,6 @@ pub fn say<P: Program>(program: &P, got: io::Result<Input>, buffer: &[u8]) -> Sa
             problem: program.problem(),
         },
     }
-}
-
-// Writes what is rightly said of the buffer.
-pub fn write<P: Program, O: Write, E: Write>(
-    program: &P,
-    stdout: &mut O,
-    stderr: &mut E,
-    said: Said,
-    got: io::Result<Input>,
-    buffer: &[u8],
-)
-    requires { Rightly P.prints P.unreadable got buffer.now said }
-{
-    write_text(stdout, said.out);
-    write_text(stderr, said.problem);
 }
 
 // Writes bytes, which are those that a text shows. Where they cannot be written nothing else is said.

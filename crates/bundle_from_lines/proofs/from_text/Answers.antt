@@ -8,7 +8,7 @@ use Rattle.bundle_from_lines.proofs.Made.{text_refused, text_inside, text_made}
 use Rattle.bundle_from_lines.proofs.from_text.Goals as goal
 
 pub returns-in_err-n : goal.returns-in_err-n
-returns-in_err-n c =
+returns-in_err-n c room =
     let args = c.args in
     let E = args.entities in
     let R = args.names in
@@ -26,7 +26,7 @@ write_front-requires c =
     )
 
 pub returns : goal.returns
-returns c =
+returns c room =
     let args = c.args in
     text_made args.entities args.names args.marks.now args.text.now c.requires.0 args.records.now _ c.requires.1 _ _ refl c.in_ok-n.ensures
-    args.bundle.now _ _ c.requires.2 c.write_front.ensures
+    args.bundle.now _ _ room c.write_front.ensures

@@ -4,7 +4,7 @@ use Rattle.holders.proofs.Prints.{prints_list}
 use Rattle.holders.proofs.listing_for.Goals as goal
 
 pub returns : goal.returns
-returns c = (
-  prints_list c.args.input.now c.args.text.now c.requires _ c.list-listed.result _ c.list-listed.ensures c.listing_of.ensures,
+returns c room = (
+  prints_list c.args.input.now c.args.text.now room _ c.list-listed.result _ c.list-listed.ensures c.listing_of.ensures,
   no_problem c.list-listed.result _ c.listing_of.ensures,
 )

@@ -11,10 +11,10 @@ use Rattle.lines_from_bundle.proofs.Prints.{bundle_refused}
 use Rattle.lines_from_bundle.proofs.from_bundle.Goals as goal
 
 pub from_records-requires : goal.from_records-requires
-from_records-requires c = (reads_accepted _ _ c.in_ok-sizes.ensures, c.requires.0, c.requires.1)
+from_records-requires c = (reads_accepted _ _ c.in_ok-sizes.ensures, c.requires)
 
 pub returns-in_err-sizes : goal.returns-in_err-sizes
-returns-in_err-sizes c =
+returns-in_err-sizes c room =
     let bundle = c.args.bundle.now in
     let due = reads_refused bundle _ _ c.in_err-sizes.ensures in
     widened_on (Gives (reader_rows bundle) (LinesFrom bundle) c.args.text.now) c.from_residual.ensures

@@ -19,7 +19,7 @@ write_front-requires c =
     gathered_inside args.bundle.now args.sizes c.requires.0 args.records.now _ _ c.requires.1 c.gather-n.ensures
 
 pub returns : goal.returns
-returns c =
+returns c room =
     let args = c.args in
     bundle_lines args.bundle.now args.sizes c.requires.0 args.records.now _ _ c.requires.1 c.gather-n.ensures args.text.now _ _
-    c.requires.2 c.write_front.ensures
+    room c.write_front.ensures

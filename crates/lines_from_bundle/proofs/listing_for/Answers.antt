@@ -9,12 +9,12 @@ use Rattle.lines_from_bundle.specs.Prints.{LinesFrom}
 use Rattle.lines_from_bundle.proofs.listing_for.Goals as goal
 
 pub from_bundle-wrote-requires : goal.from_bundle-wrote-requires
-from_bundle-wrote-requires c = (omega arith, c.requires)
+from_bundle-wrote-requires c = omega arith
 
 pub returns : goal.returns
-returns c =
+returns c room =
     let bundle = c.args.bundle.now in
     let made = c.from_bundle-wrote in (
-      prints_answer (reader_rows bundle) (LinesFrom bundle) (reader_numbers bundle) _ _ made.result made.ensures c.listing_of.ensures,
+      prints_answer (reader_rows bundle) (LinesFrom bundle) (reader_numbers bundle) _ _ made.result (made.ensures room) c.listing_of.ensures,
       no_problem (listed_as made.result) _ c.listing_of.ensures,
     )

@@ -2,5 +2,5 @@
 use native.Mathlib.Omega.{arith}
 use Rattle.lines_from_bundle.proofs.run.Goals as goal
 
-pub say-listing-requires : goal.say-listing-requires
-say-listing-requires g c = (omega (arith, c.fill-got.auto.buffer), (_, c.fill-got.ensures), omega arith)
+pub write-requires : goal.write-requires
+write-requires g c = c.say-listing.ensures (omega (arith, c.fill-got.auto.buffer)) (_, c.fill-got.ensures) (omega arith)

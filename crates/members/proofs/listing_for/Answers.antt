@@ -4,7 +4,7 @@ use Rattle.members.proofs.Prints.{prints_list}
 use Rattle.members.proofs.listing_for.Goals as goal
 
 pub returns : goal.returns
-returns c = (
-  prints_list c.args.input.now c.args.text.now _ c.list-listed.result _ c.requires c.list-listed.ensures c.listing_of.ensures,
+returns c room = (
+  prints_list c.args.input.now c.args.text.now _ c.list-listed.result _ room c.list-listed.ensures c.listing_of.ensures,
   no_problem c.list-listed.result _ c.listing_of.ensures,
 )

@@ -2,5 +2,5 @@
 use native.Mathlib.Omega.{arith}
 use Rattle.read_bundle.proofs.run.Goals as goal
 
-pub say-said-requires : goal.say-said-requires
-say-said-requires g c = (omega (arith, c.fill-got.auto.buffer), (_, c.fill-got.ensures))
+pub write-requires : goal.write-requires
+write-requires g c = c.say-said.ensures (omega (arith, c.fill-got.auto.buffer)) (_, c.fill-got.ensures)

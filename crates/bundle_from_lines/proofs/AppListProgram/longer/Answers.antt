@@ -4,6 +4,6 @@ use Rattle.bundle_from_lines.proofs.Prints.{lists_onward}
 use Rattle.bundle_from_lines.proofs.AppListProgram.longer.Goals as goal
 
 pub returns : goal.returns
-returns c =
-    let (out, problem) = c.listing_for.ensures in
-    (lists_onward c.args.buffer.now _ _ (omega (arith, c.requires.0)) out, problem)
+returns c long room =
+    let (out, problem) = c.listing_for.ensures room in
+    (lists_onward c.args.buffer.now _ _ (omega (arith, long)) out, problem)

@@ -6,8 +6,8 @@ use Rattle.roles.proofs.Prints.{prints_longer}
 use Rattle.roles.proofs.AppListProgram.longer.Goals as goal
 
 pub returns : goal.returns
-returns c = (
+returns c long room = (
   line_longer c.args.text.now record { length = 0; line = c.refusal.result; problem = c.empty.result } Prints c.args.buffer.now _ _
-      prints_longer c.requires.0 refl c.refusal.ensures,
+      prints_longer long refl c.refusal.ensures,
   c.empty.ensures.0,
 )
