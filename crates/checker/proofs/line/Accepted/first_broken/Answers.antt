@@ -1,10 +1,13 @@
 -- `checker::line::Accepted::first_broken` meets its contract. The invariants: no line before i is wrong, and no premise of line i before j.
 use native.Mathlib.Omega.{arith}
-use mathlib.Core.Path.{◌≡◌, sym, ◌∙◌}
+use mathlib.Core.Path.{◌≡◌, refl, sym, ◌∙◌}
 use borrow.Author.Rules.{rules}
-use Rattle.base.proofs.Lowest.{lowest_none}
+use Rattle.base.proofs.Lowest.{missed_none, lowest_none}
 use Rattle.checker.proofs.Lookups.{line_found, line_passed}
 use Rattle.checker.proofs.line.Accepted.first_broken.Goals as goal
+
+pub lines-init : goal.lines-init
+lines-init c = (refl, missed_none _)
 
 pub lines-preserved : goal.lines-preserved
 lines-preserved c =
